@@ -1,0 +1,3 @@
+pub mod All
+pub mod SeasonA
+pub mod Cases

@@ -1,0 +1,160 @@
+-- Open, set and exchange as functions of what is lent to them (document 01, "Calls and the plain sheet"): for every input they give
+-- the reply and the final contents of sheet, ledger and tally. Set and exchange keep what they do not touch; that what they keep is
+-- right is no part of their text.
+use mathlib.Core.List.{List, [], _∷_, _++_}
+use mathlib.Core.Bool.{Bool, true, false, _&&_, _||_, cond}
+use Prim.Native.Nat.{ℕ, zero, suc, _+_, _-_, _%_, _^_}
+use lib.IntN.{ℤ, pos}
+use lib.ListN.{length, getD, set, take, drop}
+use mir.Syntax.{w64}
+use mir.Val.{toZ}
+use Rattle.robinx.specs.Sums.{sumTo, catTo, listTo, only}
+use Rattle.robinx.specs.Season.{Instance, decode}
+use Rattle.robinx.specs.Timetable.{X}
+use Rattle.robinx.specs.Touch.{touches}
+use Rattle.robinx.specs.Books.{timetable, deviationsAt, penaltyAt, entriesAt, startAt, isHard, isSoft, total, freshLedger, freshTally, verdict}
+use Rattle.robinx.specs.Refusals.{Sentence, sentence, firstTrue, ofSeason, ofBuffers, sentence9, sentence10, sentence11, sentence12, sentence13}
+use Rattle.robinx.specs.declared.Constraint.{Constraint}
+use Rattle.robinx.specs.declared.Reply.{Reply}
+
+-- what a call answers, and what it leaves in the buffers
+pub record Outcome : Type 0 where
+  pub reply : Reply
+  pub sheet : List ℕ
+  pub ledger : List ℕ
+  pub tally : List ℕ
+
+abbrev pub outcome : Reply → List ℕ → List ℕ → List ℕ → Outcome
+outcome reply sheet ledger tally = record { reply = reply; sheet = sheet; ledger = ledger; tally = tally }
+
+-- "The reply is marked as declined ..; it holds the number with both changes 0"
+abbrev pub declined : ℕ → Reply
+declined number = record { declined = true; number = number; infeasibility = pos 0; objective = pos 0 }
+
+abbrev pub accepted : ℕ → ℤ → ℤ → Reply
+accepted number infeasibility objective =
+    record { declined = false; number = number; infeasibility = infeasibility; objective = objective }
+
+-- the accepted outcome where no sentence is true; else the refusal, "and the four buffers keep their bytes"
+abbrev pub unlessRefused : ℕ → Outcome → List ℕ → List ℕ → List ℕ → Outcome
+unlessRefused zero done sheet ledger tally = done
+unlessRefused (suc r) done sheet ledger tally = outcome (declined (suc r)) sheet ledger tally
+
+-- Open "checks a proposed sheet and fills ledger and tally"; its changes "start from zero".
+unfoldable pub openFault : List ℕ → List ℕ → List ℕ → List ℕ → ℕ
+openFault season sheet ledger tally =
+    firstTrue (ofSeason season ++ ofBuffers (decode season) sheet (length ledger) (length tally))
+
+unfoldable pub opened : Instance → List ℕ → Outcome
+opened m sheet =
+    outcome
+    (accepted
+    (verdict m sheet (total isHard m (timetable m sheet)))
+    (pos (total isHard m (timetable m sheet)))
+    (pos (total isSoft m (timetable m sheet))))
+    sheet
+    (freshLedger m sheet)
+    (freshTally m sheet)
+
+unfoldable pub openCall : List ℕ → List ℕ → List ℕ → List ℕ → Outcome
+openCall season sheet ledger tally =
+    unlessRefused (openFault season sheet ledger tally) (opened (decode season) sheet) sheet ledger tally
+
+-- "Set gives game g slot s, where 0 lifts it. Exchange swaps the slots of two placed games."
+pub data Call : Type 0 where
+  setSlot exchange : ℕ → ℕ → Call
+
+-- the sheet as a call would leave it
+unfoldable pub moved : List ℕ → Call → List ℕ
+moved sheet (setSlot g s) = set sheet g s
+moved sheet (exchange g h) = set (set sheet g (getD sheet h 0)) h (getD sheet g 0)
+
+-- "Set is refused by sentence 9 or 10 .., exchange by 9, 11 or 12, and either of them by 13"
+abbrev pub ofCall : Instance → List ℕ → Call → List Sentence
+ofCall m sheet (setSlot g s) =
+    sentence 9 (sentence9 m g)
+    ∷ sentence 10 (sentence10 m s)
+    ∷ sentence 13 (sentence13 m (moved sheet (setSlot g s)))
+    ∷ []
+ofCall m sheet (exchange g h) =
+    sentence 9 (sentence9 m g || sentence9 m h)
+    ∷ sentence 11 (sentence11 g h)
+    ∷ sentence 12 (sentence12 sheet g h)
+    ∷ sentence 13 (sentence13 m (moved sheet (exchange g h)))
+    ∷ []
+
+-- the change of game g to slot b touches constraint number c
+abbrev pub touchedBy : Instance → List ℕ → ℕ → ℕ → ℕ → Bool
+touchedBy m sheet g b c = touches (m .constraint c) (getD (m .home) g 0) (getD (m .away) g 0) (getD sheet g 0) b
+
+-- "An exchange touches what either of its two changes touches."
+unfoldable pub touched : Instance → List ℕ → Call → ℕ → Bool
+touched m sheet (setSlot g s) c = touchedBy m sheet g s c
+touched m sheet (exchange g h) c = touchedBy m sheet g (getD sheet h 0) c || touchedBy m sheet h (getD sheet g 0) c
+
+-- constraint c's own stretch of a ledger
+unfoldable pub stretchAt : Instance → List ℕ → ℕ → List ℕ
+stretchAt m ledger c = take (entriesAt m c) (drop (startAt m c) ledger)
+
+-- "rework all figures of touched constraints, keep the others": t says which are touched
+abbrev pub reworkedStretch : Instance → (ℕ → Bool) → X → List ℕ → ℕ → List ℕ
+reworkedStretch m t x ledger c = cond (t c) (deviationsAt m x c) (stretchAt m ledger c)
+
+abbrev pub reworkedPenalty : Instance → (ℕ → Bool) → X → List ℕ → ℕ → ℕ
+reworkedPenalty m t x tally c = cond (t c) (penaltyAt m x c) (getD tally c 0)
+
+-- The change of a total: "the sum, over the touched hard constraints, of the new penalty less the one that the tally held", and the
+-- same over the soft ones, modulo 2^64.
+unfoldable pub gained : (Constraint → Bool) → Instance → (ℕ → Bool) → X → ℕ → ℕ
+gained want m t x k = sumTo (λ c. only (t c && want (m .constraint c)) (penaltyAt m x c)) k
+
+unfoldable pub lost : (Constraint → Bool) → Instance → (ℕ → Bool) → List ℕ → ℕ → ℕ
+lost want m t tally k = sumTo (λ c. only (t c && want (m .constraint c)) (getD tally c 0)) k
+
+unfoldable pub change : (Constraint → Bool) → Instance → (ℕ → Bool) → X → List ℕ → ℕ
+change want m t x tally = (gained want m t x (m .C) + (2 ^ 64 - lost want m t tally (m .C) % 2 ^ 64)) % 2 ^ 64
+
+-- "move totals by the change modulo 2^64"
+abbrev pub movedTotal : ℕ → ℕ → ℕ
+movedTotal old d = (old + d) % 2 ^ 64
+
+-- The outcome of an accepted set or exchange. "such a change is read as two's complement and such a verdict from the moved total"
+unfoldable pub reworked : Instance → List ℕ → List ℕ → List ℕ → Call → Outcome
+reworked m sheet ledger tally k =
+    let after = moved sheet k in
+    let x = timetable m after in
+    let t = touched m sheet k in
+    let hard = change isHard m t x tally in
+    let soft = change isSoft m t x tally in
+    let infeasibility = movedTotal (getD tally (m .C) 0) hard in
+    let objective = movedTotal (getD tally (m .C + 1) 0) soft in
+    outcome
+    (accepted (verdict m after infeasibility) (toZ w64 hard) (toZ w64 soft))
+    after
+    (catTo (reworkedStretch m t x ledger) (m .C))
+    (listTo (reworkedPenalty m t x tally) (m .C) ++ infeasibility ∷ objective ∷ [])
+
+unfoldable pub callFault : List ℕ → List ℕ → List ℕ → List ℕ → Call → ℕ
+callFault season sheet ledger tally k =
+    firstTrue
+    (ofSeason season
+    ++ ofBuffers (decode season) sheet (length ledger) (length tally)
+    ++ ofCall (decode season) sheet k)
+
+unfoldable pub setCall : List ℕ → List ℕ → List ℕ → List ℕ → ℕ → ℕ → Outcome
+setCall season sheet ledger tally g s =
+    unlessRefused
+    (callFault season sheet ledger tally (setSlot g s))
+    (reworked (decode season) sheet ledger tally (setSlot g s))
+    sheet
+    ledger
+    tally
+
+unfoldable pub exchangeCall : List ℕ → List ℕ → List ℕ → List ℕ → ℕ → ℕ → Outcome
+exchangeCall season sheet ledger tally g h =
+    unlessRefused
+    (callFault season sheet ledger tally (exchange g h))
+    (reworked (decode season) sheet ledger tally (exchange g h))
+    sheet
+    ledger
+    tally

@@ -1,0 +1,127 @@
+-- The deviations of each kind (document 01, "What each kind counts"; RobinX, section 3.2), from the numbers of teams and slots,
+-- the constraint and x. Teams, slots and pairs stand in rising order.
+use mathlib.Core.List.{List, [], _∷_}
+use mathlib.Core.Bool.{Bool, true, false, _&&_, cond}
+use Prim.Native.Nat.{ℕ, suc, _+_, _-_, max}
+use lib.Dec.{ltb}
+use Rattle.robinx.specs.Sums.{sumTo, maxTo, catTo, only, onlyL, dist}
+use Rattle.robinx.specs.Groups.{has, size, isPair, pairs}
+use Rattle.robinx.specs.Timetable.{X, side, homeSide, awaySide, firstModes, gamesIn, gamesAgainst, gamesUpTo, gamesBetween, breaksIn, meet, lastMeeting}
+use Rattle.robinx.specs.Kinds.{Kind, kindOf}
+use Rattle.robinx.specs.declared.Constraint.{Constraint}
+
+-- f of each member below n
+unfoldable pub each : ℕ → ℕ → (ℕ → ℕ) → List ℕ
+each n T f = catTo (λ t. onlyL (has T t) (f t ∷ [])) n
+
+-- f of each pair of members below n, lower one first
+unfoldable pub eachPair : ℕ → ℕ → (ℕ → ℕ → ℕ) → List ℕ
+eachPair n T f = catTo (λ i. catTo (λ j. onlyL (isPair T i j) (f i j ∷ [])) n) n
+
+-- the sum of f over the slots of S
+unfoldable pub over : ℕ → ℕ → (ℕ → ℕ) → ℕ
+over P S f = sumTo (λ k. only (has S k) (f k)) P
+
+-- the largest of f over the slots of S, at least 0
+unfoldable pub worst : ℕ → ℕ → (ℕ → ℕ) → ℕ
+worst P S f = maxTo (λ k. only (has S k) (f k)) P
+
+-- "A count c outside kmin..kmax deviates by max(kmin − c, c − kmax, 0)"; a difference of numbers is at least 0
+abbrev pub outside : Constraint → ℕ → ℕ
+outside c v = max (c .kmin - v) (v - c .kmax)
+
+-- BR1, BR2: "Modes 1 to 3 deviate by max(c − kmax, 0), modes 4 to 6 by |kmax − c|"
+abbrev pub offTarget : Bool → ℕ → ℕ → ℕ
+offTarget true kmax v = v - kmax
+offTarget false kmax v = dist kmax v
+
+-- CA1: the team's games of the mode in S
+unfoldable pub devCA1 : ℕ → ℕ → Constraint → X → List ℕ
+devCA1 n P c x = each n (c .t1) (λ t. outside c (over P (c .s) (λ k. gamesIn n x (side (c .mode)) t k)))
+
+-- CA2: .. against T2
+unfoldable pub devCA2 : ℕ → ℕ → Constraint → X → List ℕ
+devCA2 n P c x = each n (c .t1) (λ t. outside c (over P (c .s) (λ k. gamesAgainst n x (side (c .mode)) (c .t2) t k)))
+
+-- CA3: in each run of w slots, from each slot a that has w slots from it on; their deviations are summed
+unfoldable pub runGames : ℕ → Constraint → X → ℕ → ℕ → ℕ
+runGames n c x t a = sumTo (λ d. gamesAgainst n x (side (c .mode)) (c .t2) t (a + d)) (c .w)
+
+unfoldable pub devCA3 : ℕ → ℕ → Constraint → X → List ℕ
+devCA3 n P c x = each n (c .t1) (λ t. sumTo (λ a. outside c (runGames n c x t a)) (suc P - c .w))
+
+-- CA4: games with a T1 team on the mode's side and a T2 team on the other, for all S or per slot of S
+unfoldable pub devCA4 : ℕ → ℕ → Constraint → X → List ℕ
+devCA4 n P c x =
+    cond (firstModes (c .mode))
+    (outside c (over P (c .s) (λ k. gamesBetween n x (side (c .mode)) (c .t1) (c .t2) k)) ∷ [])
+    (each P (c .s) (λ k. outside c (gamesBetween n x (side (c .mode)) (c .t1) (c .t2) k)))
+
+-- GA1: games in S with home team in T1 and away team in T2
+unfoldable pub devGA1 : ℕ → ℕ → Constraint → X → List ℕ
+devGA1 n P c x = outside c (over P (c .s) (λ k. gamesBetween n x homeSide (c .t1) (c .t2) k)) ∷ []
+
+-- a team's breaks of the mode's side in S
+unfoldable pub breaks : ℕ → ℕ → Constraint → X → ℕ → ℕ
+breaks n P c x t = over P (c .s) (λ k. breaksIn n x (side (c .mode)) t k)
+
+-- BR1: the breaks of each team
+unfoldable pub devBR1 : ℕ → ℕ → Constraint → X → List ℕ
+devBR1 n P c x = each n (c .t1) (λ t. offTarget (firstModes (c .mode)) (c .kmax) (breaks n P c x t))
+
+-- BR2: the breaks of all teams of T1 together
+unfoldable pub devBR2 : ℕ → ℕ → Constraint → X → List ℕ
+devBR2 n P c x = offTarget (firstModes (c .mode)) (c .kmax) (sumTo (λ t. only (has (c .t1) t) (breaks n P c x t)) n) ∷ []
+
+-- FA1: home games less away games against T1 in slots 1 to s, either way round, more than kmax: the largest over s in S
+unfoldable pub devFA1 : ℕ → ℕ → Constraint → X → List ℕ
+devFA1 n P c x =
+    each n (c .t1) (λ t.
+    worst P (c .s) (λ k. dist (gamesUpTo n x homeSide (c .t1) t (suc k)) (gamesUpTo n x awaySide (c .t1) t (suc k)) - c .kmax))
+
+-- FA2: the same of two teams' games of the mode against T1
+unfoldable pub devFA2 : ℕ → ℕ → Constraint → X → List ℕ
+devFA2 n P c x =
+    eachPair n (c .t1) (λ i j.
+    worst P (c .s) (λ k.
+    dist (gamesUpTo n x (side (c .mode)) (c .t1) i (suc k)) (gamesUpTo n x (side (c .mode)) (c .t1) j (suc k)) - c .kmax))
+
+-- SE1: how far the meeting in slot k is closer than w to the one before it, and the sum of that over all slots
+unfoldable pub tooClose : X → ℕ → ℕ → ℕ → ℕ → ℕ
+tooClose x w i j k = only (meet x i j k && ltb 0 (lastMeeting x i j k)) (w - (suc k - lastMeeting x i j k))
+
+unfoldable pub devSE1 : ℕ → ℕ → Constraint → X → List ℕ
+devSE1 n P c x = eachPair n (c .t1) (λ i j. sumTo (λ k. tooClose x (c .w) i j k) P)
+
+unfoldable pub deviationsOf : Kind → ℕ → ℕ → Constraint → X → List ℕ
+deviationsOf Kind.CA1 = devCA1
+deviationsOf Kind.CA2 = devCA2
+deviationsOf Kind.CA3 = devCA3
+deviationsOf Kind.CA4 = devCA4
+deviationsOf Kind.GA1 = devGA1
+deviationsOf Kind.BR1 = devBR1
+deviationsOf Kind.BR2 = devBR2
+deviationsOf Kind.FA1 = devFA1
+deviationsOf Kind.FA2 = devFA2
+deviationsOf Kind.SE1 = devSE1
+deviationsOf Kind.unknown = λ n P c x. []
+
+unfoldable pub deviations : ℕ → ℕ → Constraint → X → List ℕ
+deviations n P c x = deviationsOf (kindOf (c .kind)) n P c x
+
+-- How many deviations there are: one for each team of T1, each slot of S or each pair of T1, or one in all.
+abbrev pub entriesOf : Kind → ℕ → ℕ → Constraint → ℕ
+entriesOf Kind.CA1 n P c = size n (c .t1)
+entriesOf Kind.CA2 n P c = size n (c .t1)
+entriesOf Kind.CA3 n P c = size n (c .t1)
+entriesOf Kind.CA4 n P c = cond (firstModes (c .mode)) 1 (size P (c .s))
+entriesOf Kind.GA1 n P c = 1
+entriesOf Kind.BR1 n P c = size n (c .t1)
+entriesOf Kind.BR2 n P c = 1
+entriesOf Kind.FA1 n P c = size n (c .t1)
+entriesOf Kind.FA2 n P c = pairs n (c .t1)
+entriesOf Kind.SE1 n P c = pairs n (c .t1)
+entriesOf Kind.unknown n P c = 0
+
+unfoldable pub entries : ℕ → ℕ → Constraint → ℕ
+entries n P c = entriesOf (kindOf (c .kind)) n P c

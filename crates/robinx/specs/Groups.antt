@@ -1,0 +1,26 @@
+-- Groups of teams and of slots. A group is a number whose bit k stands for member k; how many bits it may have is no matter here.
+-- Slots count from 0 in here, as the bits of S do: member k of S is slot k + 1 of the sheet.
+use mathlib.Core.Bool.{Bool, _&&_}
+use Prim.Native.Nat.{ℕ, _/_, _%_, _^_}
+use lib.Dec.{eqb, leb, ltb}
+use Rattle.robinx.specs.Sums.{sumTo, only}
+
+-- k is in the group
+abbrev pub has : ℕ → ℕ → Bool
+has T k = eqb (T / 2 ^ k % 2) 1
+
+-- k is at or before the last member
+abbrev pub reaches : ℕ → ℕ → Bool
+reaches T k = leb (2 ^ k) T
+
+-- "A group's size is the number of its set bits": of those below n, and a valid group has no others
+unfoldable pub size : ℕ → ℕ → ℕ
+size n T = sumTo (λ t. only (has T t) 1) n
+
+-- both are members, and i is the lower one
+abbrev pub isPair : ℕ → ℕ → ℕ → Bool
+isPair T i j = has T i && has T j && ltb i j
+
+-- the number of pairs of members
+unfoldable pub pairs : ℕ → ℕ → ℕ
+pairs n T = sumTo (λ i. sumTo (λ j. only (isPair T i j) 1) n) n

@@ -1,0 +1,14 @@
+pub mod Sums
+pub mod Groups
+pub mod Season
+pub mod Timetable
+pub mod Kinds
+pub mod Deviations
+pub mod Touch
+pub mod Penalty
+pub mod Rules
+pub mod Books
+pub mod Refusals
+pub mod Calls
+pub mod PlainSheet
+pub mod Demand3
