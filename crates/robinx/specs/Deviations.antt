@@ -6,7 +6,7 @@ use Prim.Native.Nat.{ℕ, suc, _+_, _-_, max}
 use lib.Dec.{ltb}
 use Rattle.robinx.specs.Sums.{sumTo, maxTo, catTo, only, onlyL, dist}
 use Rattle.robinx.specs.Groups.{has, size, isPair, pairs}
-use Rattle.robinx.specs.Timetable.{X, side, homeSide, awaySide, firstModes, gamesIn, gamesAgainst, gamesUpTo, gamesBetween, breaksIn, meet, lastMeeting}
+use Rattle.robinx.specs.Timetable.{X, side, homeSide, awaySide, firstModes, gamesIn, gamesAgainst, gamesUpTo, gamesBetween, breaksIn, meet, lastSlot}
 use Rattle.robinx.specs.Kinds.{Kind, kindOf}
 use Rattle.robinx.specs.declared.Constraint.{Constraint}
 
@@ -27,8 +27,8 @@ unfoldable pub worst : ℕ → ℕ → (ℕ → ℕ) → ℕ
 worst P S f = maxTo (λ k. only (has S k) (f k)) P
 
 -- "A count c outside kmin..kmax deviates by max(kmin − c, c − kmax, 0)"; a difference of numbers is at least 0
-abbrev pub outside : Constraint → ℕ → ℕ
-outside c v = max (c .kmin - v) (v - c .kmax)
+abbrev pub outside : ℕ → ℕ → ℕ → ℕ
+outside kmin kmax v = max (kmin - v) (v - kmax)
 
 -- BR1, BR2: "Modes 1 to 3 deviate by max(c − kmax, 0), modes 4 to 6 by |kmax − c|"
 abbrev pub offTarget : Bool → ℕ → ℕ → ℕ
@@ -37,29 +37,33 @@ offTarget false kmax v = dist kmax v
 
 -- CA1: the team's games of the mode in S
 unfoldable pub devCA1 : ℕ → ℕ → Constraint → X → List ℕ
-devCA1 n P c x = each n (c .t1) (λ t. outside c (over P (c .s) (λ k. gamesIn n x (side (c .mode)) t k)))
+devCA1 n P c x = each n (c .t1) (λ t. outside (c .kmin) (c .kmax) (over P (c .s) (λ k. gamesIn n x (side (c .mode)) t k)))
 
 -- CA2: .. against T2
 unfoldable pub devCA2 : ℕ → ℕ → Constraint → X → List ℕ
-devCA2 n P c x = each n (c .t1) (λ t. outside c (over P (c .s) (λ k. gamesAgainst n x (side (c .mode)) (c .t2) t k)))
+devCA2 n P c x = each n (c .t1) (λ t. outside (c .kmin) (c .kmax) (over P (c .s) (λ k. gamesAgainst n x (side (c .mode)) (c .t2) t k)))
 
 -- CA3: in each run of w slots, from each slot a that has w slots from it on; their deviations are summed
-unfoldable pub runGames : ℕ → Constraint → X → ℕ → ℕ → ℕ
-runGames n c x t a = sumTo (λ d. gamesAgainst n x (side (c .mode)) (c .t2) t (a + d)) (c .w)
+unfoldable pub inRun : (ℕ → ℕ) → ℕ → ℕ → ℕ
+inRun f w a = sumTo (λ d. f (a + d)) w
 
 unfoldable pub devCA3 : ℕ → ℕ → Constraint → X → List ℕ
-devCA3 n P c x = each n (c .t1) (λ t. sumTo (λ a. outside c (runGames n c x t a)) (suc P - c .w))
+devCA3 n P c x =
+    each n (c .t1) (λ t.
+    sumTo
+    (λ a. outside (c .kmin) (c .kmax) (inRun (gamesAgainst n x (side (c .mode)) (c .t2) t) (c .w) a))
+    (suc P - c .w))
 
 -- CA4: games with a T1 team on the mode's side and a T2 team on the other, for all S or per slot of S
 unfoldable pub devCA4 : ℕ → ℕ → Constraint → X → List ℕ
 devCA4 n P c x =
     cond (firstModes (c .mode))
-    (outside c (over P (c .s) (λ k. gamesBetween n x (side (c .mode)) (c .t1) (c .t2) k)) ∷ [])
-    (each P (c .s) (λ k. outside c (gamesBetween n x (side (c .mode)) (c .t1) (c .t2) k)))
+    (outside (c .kmin) (c .kmax) (over P (c .s) (λ k. gamesBetween n x (side (c .mode)) (c .t1) (c .t2) k)) ∷ [])
+    (each P (c .s) (λ k. outside (c .kmin) (c .kmax) (gamesBetween n x (side (c .mode)) (c .t1) (c .t2) k)))
 
 -- GA1: games in S with home team in T1 and away team in T2
 unfoldable pub devGA1 : ℕ → ℕ → Constraint → X → List ℕ
-devGA1 n P c x = outside c (over P (c .s) (λ k. gamesBetween n x homeSide (c .t1) (c .t2) k)) ∷ []
+devGA1 n P c x = outside (c .kmin) (c .kmax) (over P (c .s) (λ k. gamesBetween n x homeSide (c .t1) (c .t2) k)) ∷ []
 
 -- a team's breaks of the mode's side in S
 unfoldable pub breaks : ℕ → ℕ → Constraint → X → ℕ → ℕ
@@ -86,12 +90,12 @@ devFA2 n P c x =
     worst P (c .s) (λ k.
     dist (gamesUpTo n x (side (c .mode)) (c .t1) i (suc k)) (gamesUpTo n x (side (c .mode)) (c .t1) j (suc k)) - c .kmax))
 
--- SE1: how far the meeting in slot k is closer than w to the one before it, and the sum of that over all slots
-unfoldable pub tooClose : X → ℕ → ℕ → ℕ → ℕ → ℕ
-tooClose x w i j k = only (meet x i j k && ltb 0 (lastMeeting x i j k)) (w - (suc k - lastMeeting x i j k))
+-- SE1: how far a game in slot k is closer than w slots to the one before it; of two teams' meetings, summed over all slots
+unfoldable pub tooClose : (ℕ → Bool) → ℕ → ℕ → ℕ
+tooClose game w k = only (game k && ltb 0 (lastSlot game k)) (w - (suc k - lastSlot game k))
 
 unfoldable pub devSE1 : ℕ → ℕ → Constraint → X → List ℕ
-devSE1 n P c x = eachPair n (c .t1) (λ i j. sumTo (λ k. tooClose x (c .w) i j k) P)
+devSE1 n P c x = eachPair n (c .t1) (λ i j. sumTo (tooClose (meet x i j) (c .w)) P)
 
 unfoldable pub deviationsOf : Kind → ℕ → ℕ → Constraint → X → List ℕ
 deviationsOf Kind.CA1 = devCA1

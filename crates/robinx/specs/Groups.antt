@@ -5,9 +5,12 @@ use Prim.Native.Nat.{ℕ, _/_, _%_, _^_}
 use lib.Dec.{eqb, leb, ltb}
 use Rattle.robinx.specs.Sums.{sumTo, only}
 
+abbrev pub bit : ℕ → ℕ → ℕ
+bit T k = T / 2 ^ k % 2
+
 -- k is in the group
 abbrev pub has : ℕ → ℕ → Bool
-has T k = eqb (T / 2 ^ k % 2) 1
+has T k = eqb (bit T k) 1
 
 -- k is at or before the last member
 abbrev pub reaches : ℕ → ℕ → Bool

@@ -64,14 +64,14 @@ gamesBetween n x d T1 T2 k = sumTo (λ i. sumTo (λ j. only (between d T1 T2 i j
 unfoldable pub plays : ℕ → X → ℕ → ℕ → ℕ → Bool
 plays n x d t k = ltb 0 (gamesIn n x d t k)
 
--- t's last game in the first k slots was on the side d; slots in which t does not play (byes) are skipped
-unfoldable pub lastWas : ℕ → X → ℕ → ℕ → ℕ → Bool
-lastWas n x d t zero = false
-lastWas n x d t (suc k) = cond (plays n x anySide t k) (plays n x d t k) (lastWas n x d t k)
+-- the last of the first k slots in which there is a game was on the side; slots without a game (byes) are skipped
+unfoldable pub lastWas : (ℕ → Bool) → (ℕ → Bool) → ℕ → Bool
+lastWas game onSide zero = false
+lastWas game onSide (suc k) = cond (game k) (onSide k) (lastWas game onSide k)
 
 -- "A team has a break in a slot when it plays there with the same side as in its last game before": a break of one side d
 unfoldable pub breakOn : ℕ → X → ℕ → ℕ → ℕ → Bool
-breakOn n x d t k = plays n x d t k && lastWas n x d t k
+breakOn n x d t k = plays n x d t k && lastWas (plays n x anySide t) (plays n x d t) k
 
 -- breaks of the sides d that t has in slot k
 unfoldable pub breaksIn : ℕ → X → ℕ → ℕ → ℕ → ℕ
@@ -81,10 +81,10 @@ breaksIn n x d t k = only (has d 0 && breakOn n x homeSide t k) 1 + only (has d 
 unfoldable pub meet : X → ℕ → ℕ → ℕ → Bool
 meet x i j k = ltb 0 (x i j k + x j i k)
 
--- the last of the first k slots in which i and j meet, counted from 1; 0: there is none
-unfoldable pub lastMeeting : X → ℕ → ℕ → ℕ → ℕ
-lastMeeting x i j zero = 0
-lastMeeting x i j (suc k) = cond (meet x i j k) (suc k) (lastMeeting x i j k)
+-- the last of the first k slots that passes the test, counted from 1; 0: there is none
+unfoldable pub lastSlot : (ℕ → Bool) → ℕ → ℕ
+lastSlot game zero = 0
+lastSlot game (suc k) = cond (game k) (suc k) (lastSlot game k)
 
 -- Sentences 8 and 13: two games that share a team have one slot other than 0.
 abbrev pub shareTeam : List ℕ → List ℕ → ℕ → ℕ → Bool
