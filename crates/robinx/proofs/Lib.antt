@@ -1,3 +1,4 @@
 pub mod All
 pub mod SeasonA
 pub mod Cases
+pub mod Ext
