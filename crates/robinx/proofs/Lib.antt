@@ -1,3 +1,6 @@
+pub mod Sums
+pub mod Sizes
 pub mod All
 pub mod SeasonA
 pub mod Cases
+pub mod Ext
