@@ -4,3 +4,4 @@ pub mod All
 pub mod SeasonA
 pub mod Cases
 pub mod Ext
+pub mod Changes
