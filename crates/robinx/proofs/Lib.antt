@@ -5,3 +5,4 @@ pub mod SeasonA
 pub mod Cases
 pub mod Ext
 pub mod Changes
+pub mod Passed
