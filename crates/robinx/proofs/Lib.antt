@@ -2,3 +2,4 @@ pub mod All
 pub mod SeasonA
 pub mod Cases
 pub mod Ext
+pub mod Lengths
