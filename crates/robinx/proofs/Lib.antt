@@ -3,3 +3,4 @@ pub mod SeasonA
 pub mod Cases
 pub mod Ext
 pub mod Lengths
+pub mod Agree
