@@ -6,3 +6,5 @@ pub mod Cases
 pub mod Ext
 pub mod Changes
 pub mod Passed
+pub mod Lengths
+pub mod Agree
