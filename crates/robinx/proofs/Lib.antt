@@ -4,7 +4,10 @@ pub mod All
 pub mod SeasonA
 pub mod Cases
 pub mod Ext
-pub mod Changes
+pub mod Moved
 pub mod Passed
 pub mod Lengths
 pub mod Agree
+pub mod Change
+pub mod Kept
+pub mod Accepted
