@@ -8,3 +8,4 @@ pub mod Changes
 pub mod Passed
 pub mod Lengths
 pub mod Agree
+pub mod Change
