@@ -18,6 +18,7 @@ use Rattle.robinx.specs.Touch.{scope, hits, touches}
 use Rattle.robinx.specs.Books.{timetable, deviationsAt}
 use Rattle.robinx.specs.Calls.{Call, moved, touchedBy, touched}
 use Rattle.robinx.specs.declared.Constraint.{Constraint}
+use Rattle.robinx.proofs.Sums.{or-no, and-yes, never}
 use Rattle.robinx.proofs.Ext.{sum-ext}
 use Rattle.robinx.proofs.Agree.{agreement}
 
@@ -26,13 +27,10 @@ abbrev pub PointOf : ℕ → ℕ → ℕ → ℕ → ℕ → ℕ → Type 0
 PointOf i₀ j₀ s i j k = (i₀ ≡ i) × (j₀ ≡ j) × (s ≡ suc k)
 
 elsewhere : (i₀ j₀ s i j k : ℕ) → ¬ PointOf i₀ j₀ s i j k → (eqb i₀ i && eqb j₀ j && eqb s (suc k)) ≡ false
-elsewhere i₀ j₀ s i j k h = go (eqb i₀ i) (eqb j₀ j) (eqb s (suc k)) refl refl refl
-  where
-    go : (p q r : Bool) → eqb i₀ i ≡ p → eqb j₀ j ≡ q → eqb s (suc k) ≡ r → (p && q && r) ≡ false
-    go false q r ep eq er = refl
-    go true false r ep eq er = refl
-    go true true false ep eq er = refl
-    go true true true ep eq er = absurd (h (eqb-true i₀ i ep, eqb-true j₀ j eq, eqb-true s (suc k) er))
+elsewhere i₀ j₀ s i j k h = never (eqb i₀ i && eqb j₀ j && eqb s (suc k)) (λ e.
+    let p = and-yes (eqb i₀ i && eqb j₀ j) (eqb s (suc k)) e in
+    let q = and-yes (eqb i₀ i) (eqb j₀ j) (p .0) in
+    h (eqb-true i₀ i (q .0), eqb-true j₀ j (q .1), eqb-true s (suc k) (p .1)))
 
 pub change-law : (home away sheet : List ℕ) (g b : ℕ) → g < length sheet → (i j k : ℕ)
     → ¬ PointOf (getD home g 0) (getD away g 0) (getD sheet g 0) i j k
@@ -51,10 +49,6 @@ change-law home away sheet g b fits i j k old new =
 -- a constraint that does not read a game in slot s has no such point in its scope
 unread : (c : Constraint) (i₀ j₀ s i j k : ℕ) → hits c i₀ j₀ s ≡ false → scope c i j k ≡ true → ¬ PointOf i₀ j₀ s i j k
 unread c i₀ j₀ s i j k h r (ei, ej, es) = false≢true cc
-
-pub neither : (p q : Bool) → p || q ≡ false → (p ≡ false) × (q ≡ false)
-neither true q h = (h, absurd (false≢true (sym h)))
-neither false q h = (refl, h)
 
 pub kept : (n P : ℕ) (c : Constraint) (home away sheet : List ℕ) (g b : ℕ) → g < length sheet
     → touches c (getD home g 0) (getD away g 0) (getD sheet g 0) b ≡ false
@@ -75,7 +69,7 @@ kept n P c home away sheet g b fits h = go (eqb a b) refl h
         → deviations n P c (meetings home away sheet) ≡ deviations n P c (meetings home away (set sheet g b))
     go true e u = rw (← eqb-true a b e, set-getD)
     go false e u =
-        let o = neither (hits c i₀ j₀ a) (hits c i₀ j₀ b) u in
+        let o = or-no (hits c i₀ j₀ a) (hits c i₀ j₀ b) u in
         agreement n P (meetings home away sheet) (meetings home away (set sheet g b)) c (λ i j k li lj lk r.
         change-law home away sheet g b fits i j k (unread c i₀ j₀ a i j k (o .0) r) (unread c i₀ j₀ b i j k (o .1) r))
 
@@ -92,7 +86,7 @@ call-kept m sheet (Call.setSlot g s) c good t = kept (m .n) (m .P) (m .constrain
 call-kept m sheet (Call.exchange g h) c good t =
     let a : ℕ = getD sheet g 0 in
     let b : ℕ = getD sheet h 0 in
-    let o = neither (touchedBy m sheet g b c) (touchedBy m sheet h a c) t in
+    let o = or-no (touchedBy m sheet g b c) (touchedBy m sheet h a c) t in
     kept (m .n) (m .P) (m .constraint c) (m .home) (m .away) sheet g b (good .0) (o .0)
     ∙ kept (m .n) (m .P) (m .constraint c) (m .home) (m .away) (set sheet g b) h a
     (rw length-set (good .1))
