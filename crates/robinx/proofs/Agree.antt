@@ -1,13 +1,13 @@
 -- Agreement: a constraint's deviations are the same over any two timetables that agree on its scope. Assumes nothing.
 use mathlib.Core.Path.{_≡_, refl, ap, ap₂}
-use mathlib.Core.List.{List, [], _∷_}
+use mathlib.Core.List.{[], _∷_}
 use mathlib.Core.Bool.{Bool, true, false, _&&_, _||_, cond, or-true, or-false}
 use Prim.Native.Nat.{ℕ, suc, _+_, _-_, _<_, _≤_}
 use native.Mathlib.Omega.{arith}
 use lib.Dec.{ltb}
-use Rattle.robinx.specs.Sums.{sumTo, only, dist}
+use Rattle.robinx.specs.Sums.{sumTo, dist}
 use Rattle.robinx.specs.Groups.{has, reaches}
-use Rattle.robinx.specs.Timetable.{X, side, homeSide, awaySide, anySide, firstModes, gamesWith, gamesIn, gamesAgainst, gamesUpTo, between, gamesBetween, plays, lastWas, breakOn, breaksIn, meet, lastSlot}
+use Rattle.robinx.specs.Timetable.{X, side, homeSide, awaySide, anySide, firstModes, gamesWith, gamesIn, gamesAgainst, gamesUpTo, between, gamesBetween, plays, breakOn, breaksIn, meet}
 use Rattle.robinx.specs.Kinds.{Kind, kindOf}
 use Rattle.robinx.specs.Deviations.{outside, offTarget, inRun, breaks, tooClose, devCA1, devCA2, devCA3, devCA4, devGA1, devBR1, devBR2, devFA1, devFA2, devSE1, deviationsOf, deviations}
 use Rattle.robinx.specs.Touch.{scopeOf, scope}
