@@ -1,5 +1,6 @@
 pub mod Sums
 pub mod Sizes
+pub mod Valid
 pub mod All
 pub mod SeasonA
 pub mod Cases
