@@ -4,6 +4,7 @@ use mathlib.Core.List.{List, [], _∷_, _++_}
 use mathlib.Core.Bool.{Bool, true, false, cond}
 use Prim.Native.Nat.{ℕ, zero, suc, _+_, _^_, _<_}
 use native.Mathlib.Omega.{arith}
+use lib.IntN.{pos, _+ℤ_}
 use lib.ListN.{length, getD}
 use mir.Syntax.{w64}
 use mir.Val.{toZ}
@@ -32,6 +33,20 @@ hard-held m sheet =
 pub soft-held : (m : Instance) (sheet : List ℕ) → getD (freshTally m sheet) (m .C + 1) 0 ≡ total isSoft m (timetable m sheet)
 unfolding freshTally
 soft-held m sheet = list-beyond (penaltyAt m (timetable m sheet)) (m .C) 1 _
+
+-- the outcome of a call on fresh books, worked out afresh but for its changes
+abbrev pub freshAfter : Instance → List ℕ → Call → Outcome
+freshAfter m sheet k =
+    let after = moved sheet k in
+    let y = timetable m after in
+    outcome
+    (accepted
+    (verdict m after (total isHard m y))
+    (toZ w64 (change isHard m (touched m sheet k) y (freshTally m sheet)))
+    (toZ w64 (change isSoft m (touched m sheet k) y (freshTally m sheet))))
+    after
+    (freshLedger m after)
+    (freshTally m after)
 
 module _ (m : Instance) (sheet : List ℕ) (k : Call) (good : Good sheet k) where
   abbrev after : List ℕ
@@ -66,20 +81,15 @@ module _ (m : Instance) (sheet : List ℕ) (k : Call) (good : Good sheet k) wher
   penalties-fresh = cat-ext (m .C) (λ c l. ap (λ (v : ℕ). v ∷ []) (payment c l (t c) refl))
 
   module _ (before : (want : Constraint → Bool) → total want m x < 2 ^ 60) (later : (want : Constraint → Bool) → total want m y < 2 ^ 60) where
-    -- the changes that the call answers
-    abbrev hard : ℕ
-    hard = change isHard m t y (freshTally m sheet)
+    total-fresh : (want : Constraint → Bool) (at : ℕ) → getD (freshTally m sheet) at 0 ≡ total want m x
+        → movedTotal (getD (freshTally m sheet) at 0) (change want m t y (freshTally m sheet)) ≡ total want m y
+    total-fresh want at e = rw e (total-moved m t x y same (freshTally m sheet) (penalty-held m sheet) want (before want) (later want))
 
-    abbrev soft : ℕ
-    soft = change isSoft m t y (freshTally m sheet)
-
-    hard-moved : movedTotal (getD (freshTally m sheet) (m .C) 0) hard ≡ total isHard m y
-    hard-moved = rw (hard-held m sheet) (total-moved m t x y same (freshTally m sheet) (penalty-held m sheet) isHard (before isHard) (later isHard))
-
-    soft-moved : movedTotal (getD (freshTally m sheet) (m .C + 1) 0) soft ≡ total isSoft m y
-    soft-moved = rw (soft-held m sheet) (total-moved m t x y same (freshTally m sheet) (penalty-held m sheet) isSoft (before isSoft) (later isSoft))
-
-    pub books-fresh : reworked m sheet (freshLedger m sheet) (freshTally m sheet) k
-        ≡ outcome (accepted (verdict m after (total isHard m y)) (toZ w64 hard) (toZ w64 soft)) after (freshLedger m after) (freshTally m after)
+    pub books-fresh : reworked m sheet (freshLedger m sheet) (freshTally m sheet) k ≡ freshAfter m sheet k
     unfolding reworked freshTally
-    books-fresh = rw (ledger-fresh, penalties-fresh, hard-moved, soft-moved)
+    books-fresh =
+        rw (ledger-fresh, penalties-fresh, total-fresh isHard (m .C) (hard-held m sheet), total-fresh isSoft (m .C + 1) (soft-held m sheet))
+
+    -- the change takes the fresh total before the call to the one after it
+    pub total-adds : (want : Constraint → Bool) → pos (total want m x) +ℤ toZ w64 (change want m t y (freshTally m sheet)) ≡ pos (total want m y)
+    total-adds want = change-adds m t x y same (freshTally m sheet) (penalty-held m sheet) want (before want) (later want)

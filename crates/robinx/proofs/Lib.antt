@@ -12,3 +12,4 @@ pub mod Agree
 pub mod Change
 pub mod Kept
 pub mod Accepted
+pub mod Demand3
