@@ -9,13 +9,14 @@ use native.Mathlib.Nat.{mul-le-mul-right, mul-le-mul-left, mul-le-mul, le-trans,
 use lib.Dec.{eqb, ltb}
 use lib.ListN.{length, getD}
 use Rattle.robinx.specs.Sums.{sumTo, catTo, only, onlyL}
-use Rattle.robinx.specs.Groups.{has, isPair}
+use Rattle.robinx.specs.Groups.{has, size, isPair, pairs}
 use Rattle.robinx.specs.Timetable.{X, side, homeSide, awaySide, firstModes, gamesWith, gamesIn, gamesAgainst, gamesUpTo, between, gamesBetween, breakOn, breaksIn, meet}
 use Rattle.robinx.specs.Kinds.{Kind, kindOf}
-use Rattle.robinx.specs.Deviations.{each, eachPair, over, worst, outside, offTarget, devCA1, devCA2, inRun, devCA3, devCA4, devGA1, breaks, devBR1, devBR2, devFA1, devFA2, tooClose, devSE1, deviationsOf, deviations}
+use Rattle.robinx.specs.Deviations.{each, eachPair, over, worst, offTarget, devCA1, devCA2, inRun, devCA3, devCA4, devGA1, breaks, devBR1, devBR2, devFA1, devFA2, tooClose, devSE1, deviationsOf, deviations, entriesOf, entries}
 use Rattle.robinx.specs.Penalty.{sum, sumOfSquares, largest, smallest, combine, penalty}
 use Rattle.robinx.specs.declared.Constraint.{Constraint}
 use Rattle.robinx.proofs.Sums.{only-le, only-bound, sum-le, sum-bound, max-bound, sum-scale, sum-swap}
+use Rattle.robinx.proofs.Sizes.{size-le, pairs-size}
 
 -- Lists of any numbers.
 sum-append : (a b : List ℕ) → sum (a ++ b) ≡ sum a + sum b
@@ -66,6 +67,11 @@ combine-le f l = go (eqb f 1) (eqb f 2) (eqb f 3) (eqb f 4)
     go false false false true = le-trans (smallest-le l) (self-le (sum l))
     go false false false false = le-trans (largest-le l) (self-le (sum l))
 
+-- one of two, by any measure
+cond-le : {A : Type 0} (f : A → ℕ) (b : Bool) (u v : A) {B : ℕ} → f u ≤ B → f v ≤ B → f (cond b u v) ≤ B
+cond-le f true u v p q = p
+cond-le f false u v p q = q
+
 -- Lists of one number a member or a pair.
 sum-cat-le : (f : ℕ → List ℕ) {g : ℕ → ℕ} (n : ℕ) → ((k : ℕ) → k < n → sum (f k) ≤ g k) → sum (catTo f n) ≤ sumTo g n
 unfolding catTo sumTo sum
@@ -84,6 +90,32 @@ each-bound n T B h = le-trans (sum-cat-le _ n (λ t l. sum-only-le (has T t) _))
 eachPair-bound : (n T : ℕ) (f : ℕ → ℕ → ℕ) → sum (eachPair n T f) ≤ sumTo (λ i. sumTo (f i) n) n
 unfolding eachPair
 eachPair-bound n T f = sum-cat-le _ n (λ i li. sum-cat-le _ n (λ j lj. sum-only-le (isPair T i j) (f i j)))
+
+-- How many deviations there are.
+pub pairs-small : (n T : ℕ) → n ≤ 32 → pairs n T ≤ 496
+pairs-small n T h = go (size n T) (pairs-size T n) (omega (arith, size-le T n))
+  where
+    go : (s : ℕ) → 2 * pairs n T + s ≡ s * s → s ≤ 32 → pairs n T ≤ 496
+    go zero e l = omega arith
+    go (suc r) e l = let z : r ≤ 31 = omega arith in omega (arith, mul-le-mul z l)
+
+module _ (n P : ℕ) (teams : n ≤ 32) (slots : P ≤ 64) (c : Constraint) where
+  entriesOf-small : (k : Kind) → entriesOf k n P c ≤ 496
+  entriesOf-small Kind.CA1 = omega (arith, size-le (c .t1) n)
+  entriesOf-small Kind.CA2 = omega (arith, size-le (c .t1) n)
+  entriesOf-small Kind.CA3 = omega (arith, size-le (c .t1) n)
+  entriesOf-small Kind.CA4 = cond-le (λ (v : ℕ). v) (firstModes (c .mode)) 1 (size P (c .s)) (omega arith) (omega (arith, size-le (c .s) P))
+  entriesOf-small Kind.GA1 = omega arith
+  entriesOf-small Kind.BR1 = omega (arith, size-le (c .t1) n)
+  entriesOf-small Kind.BR2 = omega arith
+  entriesOf-small Kind.FA1 = omega (arith, size-le (c .t1) n)
+  entriesOf-small Kind.FA2 = pairs-small n (c .t1) teams
+  entriesOf-small Kind.SE1 = pairs-small n (c .t1) teams
+  entriesOf-small Kind.unknown = omega arith
+
+  pub entries-small : entries n P c ≤ 496
+  unfolding entries
+  entries-small = entriesOf-small (kindOf (c .kind))
 
 module _ (n P : ℕ) (teams : n ≤ 32) (slots : P ≤ 64) (x : X)
     (valid : (t k : ℕ) → t < n → k < P → sumTo (λ j. x t j k + x j t k) n ≤ 1) where
@@ -154,10 +186,6 @@ module _ (n P : ℕ) (teams : n ≤ 32) (slots : P ≤ 64) (x : X)
     teams-le : (T : ℕ) {f : ℕ → ℕ} → ((t : ℕ) → t < n → f t ≤ 65 * 255) → sum (each n T f) ≤ 530400
     teams-le T h = omega (arith, each-bound n T (65 * 255) h)
 
-    cond-le : (b : Bool) (u v : List ℕ) (B : ℕ) → sum u ≤ B → sum v ≤ B → sum (cond b u v) ≤ B
-    cond-le true u v B p q = p
-    cond-le false u v B p q = q
-
     boundOf : (k : Kind) → sum (deviationsOf k n P c x) ≤ 530400
     unfolding deviationsOf devCA1 devCA2 inRun devCA3 devCA4 devGA1 devBR1 devBR2 devFA1 devFA2 devSE1 sum
     boundOf Kind.CA1 = teams-le (c .t1) (λ t lt. omega (arith, over-le 1 (λ k lk. gamesIn-le d t k lt lk)))
@@ -166,7 +194,7 @@ module _ (n P : ℕ) (teams : n ≤ 32) (slots : P ≤ 64) (x : X)
         (sum-bound (suc P - c .w) 255 (λ a la. omega (arith, sum-bound (c .w) 1 (λ e le. gamesAgainst-le d (c .t2) t (a + e) lt (omega arith)))))
         (omega arith))
     boundOf Kind.CA4 =
-        cond-le (firstModes (c .mode)) _ _ 530400
+        cond-le sum (firstModes (c .mode)) _ _
         (omega (arith, over-le 32 (λ k lk. gamesBetween-le d (c .t1) (c .t2) k lk)))
         (le-trans (each-bound P (c .s) 255 (λ k lk. omega (arith, gamesBetween-le d (c .t1) (c .t2) k lk))) (omega arith))
     boundOf Kind.GA1 = omega (arith, over-le 32 (λ k lk. gamesBetween-le homeSide (c .t1) (c .t2) k lk))
