@@ -7,3 +7,8 @@ pub mod All
 pub mod SeasonA
 pub mod Cases
 pub mod Ext
+pub mod Changes
+pub mod Passed
+pub mod Lengths
+pub mod Agree
+pub mod Change

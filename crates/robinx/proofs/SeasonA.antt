@@ -1,15 +1,15 @@
--- Season A of document 01, byte by byte, with its sheet and its books.
+-- Season A of document 01, byte by byte, with its sheet and its books; and seasons that differ from it in their constraints.
 use mathlib.Core.List.{List, [], _∷_, _++_}
 use Prim.Native.Nat.{ℕ}
 
-abbrev head : ℕ → ℕ → ℕ → ℕ → ℕ → ℕ → ℕ → ℕ → List ℕ
+abbrev pub head : ℕ → ℕ → ℕ → ℕ → ℕ → ℕ → ℕ → ℕ → List ℕ
 head kind mode hard function weight kmin kmax w = kind ∷ mode ∷ hard ∷ function ∷ weight ∷ kmin ∷ kmax ∷ w ∷ []
 
 -- groups whose numbers fit one byte each
-abbrev body : ℕ → ℕ → ℕ → List ℕ
+abbrev pub body : ℕ → ℕ → ℕ → List ℕ
 body T1 T2 S = T1 ∷ 0 ∷ 0 ∷ 0 ∷ T2 ∷ 0 ∷ 0 ∷ 0 ∷ S ∷ 0 ∷ 0 ∷ 0 ∷ 0 ∷ 0 ∷ 0 ∷ 0 ∷ []
 
--- teams, slots, games and constraints, home teams, away teams
+-- sizes with C constraints, home teams, away teams
 abbrev pub games : ℕ → List ℕ
 games C = 4 ∷ 3 ∷ 6 ∷ 0 ∷ C ∷ 0 ∷ 0 ∷ 2 ∷ 1 ∷ 3 ∷ 0 ∷ 3 ∷ 1 ∷ 3 ∷ 2 ∷ 0 ∷ 2 ∷ 1 ∷ []
 
@@ -35,3 +35,7 @@ ledgerA = 1 ∷ 1 ∷ 0 ∷ 0 ∷ 0 ∷ 0 ∷ 0 ∷ 0 ∷ 0 ∷ 0 ∷ 1 ∷ 0 �
 -- penalties 10, 5, 0, 3; infeasibility 10, objective 8
 abbrev pub tallyA : List ℕ
 tallyA = 10 ∷ 5 ∷ 0 ∷ 3 ∷ 10 ∷ 8 ∷ []
+
+-- season A's games under one soft constraint of weight 1 and function 1
+abbrev pub under : ℕ → ℕ → ℕ → ℕ → ℕ → ℕ → ℕ → ℕ → List ℕ
+under kind mode kmin kmax w T1 T2 S = games 1 ++ head kind mode 0 1 1 kmin kmax w ++ body T1 T2 S
