@@ -1,6 +1,8 @@
 pub mod Sums
 pub mod Sizes
 pub mod Valid
+pub mod Bounds
+pub mod Limits
 pub mod All
 pub mod SeasonA
 pub mod Cases
