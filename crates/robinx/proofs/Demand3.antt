@@ -24,6 +24,7 @@ use Rattle.robinx.specs.declared.Reply.{Reply}
 use Rattle.robinx.proofs.Sums.{and-yes}
 use Rattle.robinx.proofs.Lengths.{length-ledger, length-tally, stretch-fresh}
 use Rattle.robinx.proofs.Change.{Good, call-kept}
+use Rattle.robinx.proofs.Limits.{sound, decode-home, total-small}
 use Rattle.robinx.proofs.Passed.{Passed, passed, open-passes, call-passes}
 use Rattle.robinx.proofs.Accepted.{length-moved, no-clash, good, opens-again}
 use Rattle.robinx.proofs.Kept.{penalty-held, hard-held, soft-held, freshAfter, books-fresh, total-adds}
@@ -38,7 +39,6 @@ lengths m a b c h =
 
 module _ (season : List ℕ) (small : (plain : List ℕ) (L T : ℕ) → Passed season plain L T → (want : Constraint → Bool)
     → total want (decode season) (timetable (decode season) plain) < 2 ^ 60) where
-
   abbrev m : Instance
   m = decode season
 
@@ -73,19 +73,21 @@ module _ (season : List ℕ) (small : (plain : List ℕ) (L T : ℕ) → Passed 
         tally = h .tally ∙ sym (ap (λ (o : Outcome). o .tally) a);
       }
 
-  -- An opening that is not declined holds.
-  opening : (sheet ledger tally : List ℕ) → openCall season sheet ledger tally .reply .declined ≡ false
-      → Held sheet (openCall season sheet ledger tally)
-  unfolding openCall opened
-  opening sheet ledger tally h = go (openFault season sheet ledger tally) refl h
+  -- An opening that is not declined fills the books, and holds.
+  opens : (sheet ledger tally : List ℕ) → openCall season sheet ledger tally .reply .declined ≡ false
+      → Passed season sheet (length ledger) (length tally)
+  unfolding openCall
+  opens sheet ledger tally h = passed season sheet ledger tally (go (openFault season sheet ledger tally) h)
     where
-      go : (f : ℕ) → openFault season sheet ledger tally ≡ f → unlessRefused f (opened m sheet) sheet ledger tally .reply .declined ≡ false
-          → Held sheet (unlessRefused f (opened m sheet) sheet ledger tally)
-      go zero e d =
-          let p = passed season sheet ledger tally e in
-          let l = lengths m (length sheet) (length ledger) (length tally) (p .s7) in
-          record { sheet = refl; ledger = refl; tally = refl; passes = rw (← l .1, ← l .2) p }
-      go (suc f) e d = absurd (true≢false d)
+      go : (f : ℕ) → unlessRefused f (opened m sheet) sheet ledger tally .reply .declined ≡ false → f ≡ 0
+      go zero d = refl
+      go (suc f) d = absurd (true≢false d)
+
+  opening : (sheet ledger tally : List ℕ) → Passed season sheet (length ledger) (length tally) → Held sheet (opened m sheet)
+  unfolding opened
+  opening sheet ledger tally p =
+      let l = lengths m (length sheet) (length ledger) (length tally) (p .s7) in
+      record { sheet = refl; ledger = refl; tally = refl; passes = rw (← l .1, ← l .2) p }
 
   module _ (plain : List ℕ) (o : Outcome) (h : Held plain o) (k : Call) where
     abbrev f : ℕ
@@ -105,6 +107,7 @@ module _ (season : List ℕ) (small : (plain : List ℕ) (L T : ℕ) → Passed 
       where
         pass : Passed season plain (length (freshLedger m plain)) (length (freshTally m plain))
         pass = books-pass plain (h .passes)
+
         split : (k : Call) → next season o k
             ≡ unlessRefused (plainFault m plain k) (reworked m plain (freshLedger m plain) (freshTally m plain) k) plain (freshLedger m plain) (freshTally m plain)
         split (Call.setSlot g s) =
@@ -161,9 +164,10 @@ module _ (season : List ℕ) (small : (plain : List ℕ) (L T : ℕ) → Passed 
             × (getD (result r .tally) c 0 ≡ getD (freshTally m plain) c 0)
         go zero e t =
             let s = sym (call-kept m plain k c (good-call e) t) in
-            rw (fresh e)
-            (stretch-fresh m (moved plain k) c l ∙ s ∙ sym (stretch-fresh m plain c l),
-            penalty-held m (moved plain k) c l ∙ ap (penalty (m .constraint c)) s ∙ sym (penalty-held m plain c l))
+            rw (fresh e) (
+              stretch-fresh m (moved plain k) c l ∙ s ∙ sym (stretch-fresh m plain c l),
+              penalty-held m (moved plain k) c l ∙ ap (penalty (m .constraint c)) s ∙ sym (penalty-held m plain c l),
+            )
         go (suc r) e t = (refl, refl)
 
     -- a change of this call takes the plain sheet's fresh total from before it to after it
@@ -182,9 +186,10 @@ module _ (season : List ℕ) (small : (plain : List ℕ) (L T : ℕ) → Passed 
   -- Every call of a list, and what holds after the last.
   all-right : (plain : List ℕ) (o : Outcome) → Held plain o → (ks : List Call) → AllRight season plain o ks
   all-right plain o h [] = tt
-  all-right plain o h (k ∷ ks) =
-      (record { fresh = held-fresh _ _ (held-next plain o h k); answer = answers plain o h k; keeps = keeps plain o h k },
-      all-right (plainNext m plain k) (next season o k) (held-next plain o h k) ks)
+  all-right plain o h (k ∷ ks) = (
+    record { fresh = held-fresh _ _ (held-next plain o h k); answer = answers plain o h k; keeps = keeps plain o h k },
+    all-right (plainNext m plain k) (next season o k) (held-next plain o h k) ks,
+  )
 
   held-last : (plain : List ℕ) (o : Outcome) → Held plain o → (ks : List Call) → Held (plainAfter m plain ks) (last season o ks)
   unfolding plainAfter last
@@ -203,20 +208,45 @@ module _ (season : List ℕ) (small : (plain : List ℕ) (L T : ℕ) → Passed 
       ∙ ap (λ (v : ℤ). v +ℤ added d season (next season o k) ks) e
       ∙ adds d T step (plainNext m plain k) (next season o k) (held-next plain o h k) (pos (T plain)) (step plain o h k) ks
 
-  -- the two sums of changes, from an accepted opening on
-  adds-up : (sheet ledger tally : List ℕ) → Held sheet (openCall season sheet ledger tally)
-      → openCall season sheet ledger tally ≡ opened m sheet
-      → (ks : List Call) → AddsUp season (openCall season sheet ledger tally) ks
-  unfolding opened
-  adds-up sheet ledger tally h e ks =
-      let o = openCall season sheet ledger tally in
-      let l = held-last sheet o h ks in
-      let p = plainAfter m sheet ks in
-      (sym (+ℤ-idl _)
-      ∙ adds (λ r. r .infeasibility) (λ s. total isHard m (timetable m s)) (λ plain o h k. total-change plain o h k _ isHard refl (λ r. refl))
-        sheet o h (pos 0) (rw e (+ℤ-idl _)) ks
-      ∙ ap pos (sym (rw (l .tally) (hard-held m p))),
+  -- the changes of one total add up to what the last tally holds
+  adds-up : (d : Reply → ℤ) (want : Constraint → Bool) (at : ℕ)
+      → ((plain : List ℕ) (k : Call) → d (freshAfter m plain k .reply)
+      ≡ toZ w64 (change want m (touched m plain k) (timetable m (moved plain k)) (freshTally m plain)))
+      → ((r : ℕ) → d (declined r) ≡ pos 0)
+      → ((plain : List ℕ) → getD (freshTally m plain) at 0 ≡ total want m (timetable m plain))
+      → (sheet : List ℕ) (o : Outcome) → Held sheet o → d (o .reply) ≡ pos (total want m (timetable m sheet))
+      → (ks : List Call) → added d season o ks ≡ pos (getD (last season o ks .tally) at 0)
+  adds-up d want at new none holds sheet o h e ks =
       sym (+ℤ-idl _)
-      ∙ adds (λ r. r .objective) (λ s. total isSoft m (timetable m s)) (λ plain o h k. total-change plain o h k _ isSoft refl (λ r. refl))
-        sheet o h (pos 0) (rw e (+ℤ-idl _)) ks
-      ∙ ap pos (sym (rw (l .tally) (soft-held m p))))
+      ∙ adds d (λ s. total want m (timetable m s)) (λ plain o h k. total-change plain o h k d want (new plain k) none) sheet o h (pos 0) (+ℤ-idl _ ∙ e) ks
+      ∙ ap pos (sym (rw (held-last sheet o h ks .tally) (holds (plainAfter m sheet ks))))
+
+  pub proved : (sheet ledger tally : List ℕ) → openCall season sheet ledger tally .reply .declined ≡ false → (calls : List Call)
+      → Fresh season sheet (openCall season sheet ledger tally)
+      × AllRight season sheet (openCall season sheet ledger tally) calls
+      × Fresh season (plainAfter m sheet calls) (last season (openCall season sheet ledger tally) calls)
+      × AddsUp season (openCall season sheet ledger tally) calls
+  unfolding opened
+  proved sheet ledger tally accepted calls =
+      let p = opens sheet ledger tally accepted in
+      let h = opening sheet ledger tally p in
+      let o = opened m sheet in
+      rw (open-is sheet ledger tally p) (
+        held-fresh sheet o h,
+        all-right sheet o h calls,
+        held-fresh _ _ (held-last sheet o h calls),
+        (
+          adds-up (λ r. r .infeasibility) isHard (m .C) (λ plain k. refl) (λ r. refl) (hard-held m) sheet o h refl calls,
+          adds-up (λ r. r .objective) isSoft (m .C + 1) (λ plain k. refl) (λ r. refl) (soft-held m) sheet o h refl calls,
+        ),
+      )
+
+-- the totals of a sheet that passes are small
+small : (season plain : List ℕ) (L T : ℕ) → Passed season plain L T → (want : Constraint → Bool)
+    → total want (decode season) (timetable (decode season) plain) < 2 ^ 60
+small season plain L T p want =
+    let m = decode season in
+    total-small m (sound m (p .s2) (p .s4) (p .s5)) (decode-home season (p .s3)) plain (no-clash m plain (lengths m _ _ _ (p .s7) .0) (p .s8)) want
+
+pub demand-3 : Demand3
+demand-3 season sheet ledger tally accepted calls = proved season (small season) sheet ledger tally accepted calls
