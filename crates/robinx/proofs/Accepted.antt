@@ -25,7 +25,7 @@ length-moved sheet (Call.setSlot g s) = length-set sheet g s
 length-moved sheet (Call.exchange g h) = length-set (set sheet g (getD sheet h 0)) h (getD sheet g 0) ∙ length-set sheet g (getD sheet h 0)
 
 -- every slot of a sheet of G games is at most P
-abbrev Low : Instance → List ℕ → Type 0
+abbrev pub Low : Instance → List ℕ → Type 0
 Low m sheet = (a : ℕ) → a < m .G → getD sheet a 0 ≤ m .P
 
 low-set : (m : Instance) (sheet : List ℕ) (g s : ℕ) → length sheet ≡ m .G → Low m sheet → s ≤ m .P → Low m (set sheet g s)
@@ -36,7 +36,7 @@ low-set m sheet g s long low h a l = go (ℕ-discrete a g)
     go (no e) = omega (arith, getD-set-other sheet g a s 0 e, low a l)
 
 module _ (m : Instance) (sheet : List ℕ) (long : length sheet ≡ m .G) (ok : sentence8 m sheet ≡ false) where
-  low : Low m sheet
+  pub low : Low m sheet
   unfolding sentence8
   low a l =
       ltb-false (m .P) (getD sheet a 0)

@@ -30,7 +30,7 @@ use Rattle.robinx.proofs.Accepted.{length-moved, no-clash, good, opens-
 use Rattle.robinx.proofs.Kept.{penalty-held, hard-held, soft-held, freshAfter, books-fresh, total-adds}
 
 -- buffers that pass sentence 7 have the lengths that it names
-lengths : (m : Instance) (a b c : ℕ) → sentence7 m a b c ≡ false → (a ≡ m .G) × (b ≡ allEntries m) × (c ≡ m .C + 2)
+pub lengths : (m : Instance) (a b c : ℕ) → sentence7 m a b c ≡ false → (a ≡ m .G) × (b ≡ allEntries m) × (c ≡ m .C + 2)
 unfolding sentence7
 lengths m a b c h =
     let p = and-yes (eqb a (m .G) && eqb b (allEntries m)) (eqb c (m .C + 2)) (not-false _ h) in
