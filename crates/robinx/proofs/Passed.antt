@@ -24,6 +24,24 @@ none-true (sentence zero b ∷ l) h = tt
 none-true (sentence (suc n) true ∷ l) h = let z : ⊥ = omega arith in absurd z
 none-true (sentence (suc n) false ∷ l) h = (refl, none-true l h)
 
+-- the first number of two that is not 0
+abbrev pub orElse : ℕ → ℕ → ℕ
+orElse zero b = b
+orElse (suc a) b = suc a
+
+-- no sentence has the number 0
+abbrev Numbered : List Sentence → Type 0
+Numbered [] = Unit {0}
+Numbered (sentence zero b ∷ l) = ⊥
+Numbered (sentence (suc n) b ∷ l) = Numbered l
+
+first-of-both : (l r : List Sentence) → Numbered l → firstTrue (l ++ r) ≡ orElse (firstTrue l) (firstTrue r)
+unfolding firstTrue
+first-of-both [] r h = refl
+first-of-both (sentence zero b ∷ l) r h = absurd h
+first-of-both (sentence (suc n) true ∷ l) r h = refl
+first-of-both (sentence (suc n) false ∷ l) r h = first-of-both l r h
+
 -- the season and the buffers, with ledger and tally of these lengths, have no fault
 pub record Passed (season sheet : List ℕ) (ledger tally : ℕ) : Type 0 where
   pub s1 : sentence1 season ≡ false
@@ -49,11 +67,17 @@ module _ (season sheet : List ℕ) (ledger tally : List ℕ) where
         s8 = c .1 .1 .1 .1 .1 .1 .0;
       }
 
+  -- a call's own sentences are read after those of season and buffers
+  pub fault-of-call : (k : Call)
+      → callFault season sheet ledger tally k ≡ orElse (openFault season sheet ledger tally) (plainFault (decode season) sheet k)
+  unfolding callFault openFault plainFault
+  fault-of-call k =
+      first-of-both (ofSeason season ++ ofBuffers (decode season) sheet (length ledger) (length tally)) (ofCall (decode season) sheet k) tt
+
   module _ (p : Passed season sheet (length ledger) (length tally)) where
     pub open-passes : openFault season sheet ledger tally ≡ 0
     unfolding openFault firstTrue
     open-passes = rw (p .s1, p .s2, p .s3, p .s4, p .s5, p .s7, p .s8)
 
     pub call-passes : (k : Call) → callFault season sheet ledger tally k ≡ plainFault (decode season) sheet k
-    unfolding callFault plainFault firstTrue
-    call-passes k = rw (p .s1, p .s2, p .s3, p .s4, p .s5, p .s7, p .s8)
+    call-passes k = fault-of-call k ∙ ap (λ (f : ℕ). orElse f (plainFault (decode season) sheet k)) open-passes
