@@ -1,0 +1,38 @@
+// Masks of slots: bit k of a u64 stands for slot k, counted from 0. Everything that knows how many slots a mask has is in here.
+ghost use mathlib.Core.Path.{_≡_};
+ghost use Prim.Native.Nat.{ℕ, _<_, _^_};
+ghost use Rattle.robinx.specs.Groups.{has};
+ghost use Rattle.masks.specs.Masks.{joined, without};
+
+// Slot k is in the mask.
+pub fn is_in(s: u64, k: u64) -> bool
+    requires { ⌜ k < 64 ⌝ }
+    ensures { λ r. ⌜ r ≡ has s k ⌝ }
+{
+    (s >> k) % 2 == 1
+}
+
+// The mask of one slot.
+pub fn slot(k: u64) -> u64
+    requires { ⌜ k < 64 ⌝ }
+    ensures { λ r. ⌜ r ≡ 2 ^ k ⌝ }
+{
+    1u64 << k
+}
+
+// The mask with slot k.
+pub fn joined(m: u64, k: u64) -> u64
+    requires { ⌜ k < 64 ⌝ }
+    ensures { λ r. ⌜ r ≡ joined m k ⌝ }
+{
+    m | slot(k)
+}
+
+// The mask without slot k.
+pub fn without(m: u64, k: u64) -> u64
+    requires { ⌜ k < 64 ⌝ }
+    ensures { λ r. ⌜ r ≡ without m k ⌝ }
+{
+    let b = slot(k);
+    (m | b) ^ b
+}
