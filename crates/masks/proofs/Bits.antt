@@ -12,6 +12,7 @@ use lib.Dec.{eqb, isEq, lit<}
 use borrow.Author.Tests.{eqb-true, ne-eqb}
 use Rattle.robinx.specs.Sums.{only}
 use Rattle.robinx.specs.Groups.{bit, has}
+use Rattle.robinx.proofs.Sizes.{only-bit}
 
 -- what holds of 0 and 1 holds of digits
 pub digits : (P : ℕ → ℕ → Type 0) → P 0 0 → P 0 1 → P 1 0 → P 1 1 → (x y : ℕ) → x < 2 → y < 2 → P x y
@@ -57,15 +58,11 @@ or-has m n k = ap (λ (z : ℕ). eqb z 1) (or-bit m n k) ∙ at-bits (λ x y. eq
 pub none-bit : (k : ℕ) → bit 0 k ≡ 0
 none-bit k = ap (λ (z : ℕ). z % 2) (zero-div (2 ^ k))
 
--- a bit is 1 or 0 by its test
-pub bit-only : (m k : ℕ) → bit m k ≡ only (has m k) 1
-bit-only m k = at-bits (λ x y. x ≡ only (eqb x 1) 1) refl refl refl refl m m k
-
 pub in-bit : (m k : ℕ) → has m k ≡ true → bit m k ≡ 1
 in-bit m k e = eqb-true (bit m k) 1 e
 
 pub out-bit : (m k : ℕ) → has m k ≡ false → bit m k ≡ 0
-out-bit m k e = bit-only m k ∙ rw e refl
+out-bit m k e = sym (only-bit m k) ∙ rw e refl
 
 -- the mask of one slot
 pub one-has : (k a : ℕ) → has (2 ^ k) a ≡ eqb a k
@@ -79,7 +76,7 @@ one-has (suc k) (suc a) =
     ∙ one-has k a ∙ ap isEq (sym (compare·suc-suc a k))
 
 pub one-bit : (k a : ℕ) → bit (2 ^ k) a ≡ only (eqb a k) 1
-one-bit k a = bit-only (2 ^ k) a ∙ ap (λ (t : Bool). only t 1) (one-has k a)
+one-bit k a = sym (only-bit (2 ^ k) a) ∙ ap (λ (t : Bool). only t 1) (one-has k a)
 
 -- shifted numbers
 pub shift-bit : (m k a : ℕ) → bit (m / 2 ^ k) a ≡ bit m (k + a)

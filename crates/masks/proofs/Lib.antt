@@ -1,2 +1,4 @@
 pub mod Bits
 pub mod OneSlot
+pub mod Width
+pub mod Counts

@@ -1,7 +1,8 @@
 // Masks of slots: bit k of a u64 stands for slot k, counted from 0. Everything that knows how many slots a mask has is in here.
 ghost use mathlib.Core.Path.{_≡_};
 ghost use Prim.Native.Nat.{ℕ, _<_, _^_};
-ghost use Rattle.robinx.specs.Groups.{has};
+ghost use Rattle.robinx.specs.Groups.{bit, has};
+ghost use Rattle.robinx.specs.Deviations.{over};
 ghost use Rattle.masks.specs.Masks.{joined, without};
 
 // Slot k is in the mask.
@@ -35,4 +36,11 @@ pub fn without(m: u64, k: u64) -> u64
 {
     let b = slot(k);
     (m | b) ^ b
+}
+
+// How many slots of m are in s.
+pub fn count_in(m: u64, s: u64) -> u32
+    ensures { λ r. ⌜ r ≡ over 64 s (bit m) ⌝ }
+{
+    u64::count_ones(m & s)
 }

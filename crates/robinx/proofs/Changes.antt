@@ -44,7 +44,6 @@ module _ (m : Instance) (t : ℕ → Bool) (x y : X)
     (same : (c : ℕ) → t c ≡ false → deviationsAt m x c ≡ deviationsAt m y c)
     (tally : List ℕ) (held : (c : ℕ) → c < m .C → getD tally c 0 ≡ penaltyAt m x c)
     (want : Constraint → Bool) where
-
   wanted : ℕ → Bool
   wanted c = want (m .constraint c)
 
@@ -57,7 +56,7 @@ module _ (m : Instance) (t : ℕ → Bool) (x y : X)
   balance =
       sym (sum-add _ _ (m .C))
       ∙ sum-ext (m .C) (λ c l. balance-one (t c) (wanted c) (penaltyAt m x c) (penaltyAt m y c)
-          (λ e. ap (penalty (m .constraint c)) (same c e)))
+      (λ e. ap (penalty (m .constraint c)) (same c e)))
       ∙ sum-add _ _ (m .C)
       ∙ ap (λ (v : ℕ). total want m y + v) (sym lost-is)
 
