@@ -2,3 +2,4 @@ pub mod Bits
 pub mod OneSlot
 pub mod Width
 pub mod Counts
+pub mod Carry
