@@ -3,3 +3,4 @@ pub mod OneSlot
 pub mod Width
 pub mod Counts
 pub mod Carry
+pub mod Walk
