@@ -4,3 +4,4 @@ pub mod Width
 pub mod Counts
 pub mod Carry
 pub mod Walk
+pub mod Rows

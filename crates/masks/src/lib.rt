@@ -1,11 +1,12 @@
 // Masks of slots: bit k of a u64 stands for slot k, counted from 0. Everything that knows how many slots a mask has is in here.
 ghost use mathlib.Core.Path.{_≡_};
-ghost use Prim.Native.Nat.{ℕ, _+_, _-_, _<_, _≤_, _^_};
-ghost use lib.Dec.{ltb};
-ghost use Rattle.robinx.specs.Sums.{only, sumTo};
-ghost use Rattle.robinx.specs.Groups.{bit, has};
-ghost use Rattle.robinx.specs.Deviations.{over, tooClose};
+ghost use Prim.Native.Nat.{ℕ, _+_, _-_, _<_, _≤_, _^_, max};
+ghost use lib.Dec.{eqb, ltb};
+ghost use Rattle.robinx.specs.Sums.{only, sumTo, dist};
+ghost use Rattle.robinx.specs.Groups.{bit, has, reaches};
+ghost use Rattle.robinx.specs.Deviations.{over, outside, tooClose};
 ghost use Rattle.masks.specs.Masks.{joined, without, Within, isBreak, Breaks};
+ghost use Rattle.masks.specs.Rows.{laid, farthestTo, runsTo};
 
 // Slot k is in the mask.
 pub fn is_in(s: u64, k: u64) -> bool
@@ -21,6 +22,14 @@ pub fn slot(k: u64) -> u64
     ensures { λ r. ⌜ r ≡ 2 ^ k ⌝ }
 {
     1u64 << k
+}
+
+// Slot k is at or before the last one of the mask.
+pub fn last_reach(s: u64, k: u64) -> bool
+    requires { ⌜ k < 64 ⌝ }
+    ensures { λ r. ⌜ r ≡ reaches s k ⌝ }
+{
+    slot(k) <= s
 }
 
 // The mask with slot k.
@@ -89,6 +98,91 @@ pub fn closeness(v: u64, w: u8) -> u32
         c += too_close(w, s, last);
         last = s;
         rest = (rest >> z) >> 1;
+    }
+    c
+}
+
+// A row of the mask: 1 for each of its slots, 0 for the others.
+pub fn spread(s: u64, row: &mut [u8; 64])
+    ensures { λ _. ⌜ now (row .exit) ≡ laid (now (row .entry)) (bit s) 64 ⌝ }
+{
+    let mut k = 0;
+    while k < 64 {
+        row[k] = ((s >> k) % 2) as u8;
+        k += 1;
+    }
+}
+
+// A row of running counts: how many slots of v are before each place from 0 to 64.
+pub fn lay(v: u64, row: &mut [u8; 65])
+    ensures { λ _. ⌜ now (row .exit) ≡ laid (now (row .entry)) (sumTo (bit v)) 65 ⌝ }
+{
+    let mut q: u8 = 0;
+    let mut k = 0;
+    while k < 64 {
+        row[k] = q;
+        q += ((v >> k) % 2) as u8;
+        k += 1;
+    }
+    row[64] = q;
+}
+
+fn larger(x: u8, y: u8) -> u8
+    ensures { λ r. ⌜ r ≡ max x y ⌝ }
+{
+    if x < y { y } else { x }
+}
+
+fn less(x: u8, y: u8) -> u8
+    ensures { λ r. ⌜ r ≡ x - y ⌝ }
+{
+    if y < x { x - y } else { 0 }
+}
+
+fn gap(x: u8, y: u8) -> u8
+    ensures { λ r. ⌜ r ≡ dist x y ⌝ }
+{
+    if x < y { y - x } else { x - y }
+}
+
+fn gap_if(e: u8, x: u8, y: u8) -> u8
+    ensures { λ r. ⌜ r ≡ only (eqb e 1) (dist x y) ⌝ }
+{
+    if e == 1 {
+        return gap(x, y);
+    }
+    0
+}
+
+// The largest distance of two rows of counts after each slot that the third row has.
+pub fn farthest(a: &[u8; 65], b: &[u8; 65], e: &[u8; 64]) -> u8
+    ensures { λ r. ⌜ r ≡ farthestTo (now (a .entry)) (now (b .entry)) (now (e .entry)) 64 ⌝ }
+{
+    let mut m: u8 = 0;
+    let mut k = 0;
+    while k < 64 {
+        m = larger(m, gap_if(e[k], a[k + 1], b[k + 1]));
+        k += 1;
+    }
+    m
+}
+
+fn off(low: u8, high: u8, c: u8) -> u8
+    ensures { λ r. ⌜ r ≡ outside low high c ⌝ }
+{
+    larger(less(low, c), less(c, high))
+}
+
+// How far the counts of the first n runs of w slots are outside low .. high, summed.
+pub fn runs(row: &[u8; 65], w: usize, low: u8, high: u8, n: usize) -> u32
+    requires { ⌜ n ≤ 65 - w ⌝ }
+    ensures { λ r. ⌜ r ≡ runsTo (now (row .entry)) w low high n ⌝ }
+{
+    let mut c: u32 = 0;
+    let mut k = 0;
+    while k < n {
+        c += off(low, high, less(row[k + w], row[k])) as u32;
+        k += 1;
     }
     c
 }
