@@ -123,10 +123,12 @@ other-slips
     × (exchangeA 0 4 .reply ≡ declined 13)
     × (openWith A sheetA 11 6 .reply ≡ declined 7)
     × (openWith A (set sheetA 2 1) 12 6 .reply ≡ declined 8)
+    -- kmin above kmax
+    × (openWith (under 11 1 2 1 0 1 0 1) sheetA 1 3 .reply ≡ declined 5)
     -- spoilt books: the total is moved modulo 2^64, and the verdict is read from it
     × (setCall A sheetA ledgerA (10 ∷ 5 ∷ 0 ∷ 3 ∷ 3 ∷ 8 ∷ []) 0 0
     ≡ outcome (accepted 1 (negsuc 9) (pos 0)) (set sheetA 0 0) (set ledgerA 0 0) (0 ∷ 5 ∷ 0 ∷ 3 ∷ seven-below ∷ 8 ∷ []))
     × (setCall A sheetA ledgerA (10 ∷ 5 ∷ 0 ∷ 3 ∷ 0 ∷ 8 ∷ []) 0 1 .reply ≡ accepted 0 (pos 0) (pos 0))
 unfolding all
 other-slips =
-    (refl, refl, refl, refl, refl, refl, refl, refl, refl, refl, refl, refl, refl, refl, refl, refl, refl, refl, refl)
+    (refl, refl, refl, refl, refl, refl, refl, refl, refl, refl, refl, refl, refl, refl, refl, refl, refl, refl, refl, refl)

@@ -1,7 +1,7 @@
 -- Sums, largest values, lists and tests of equal terms are equal. Assumes nothing.
 use mathlib.Core.Path.{_≡_, refl, ap, ap₂}
 use mathlib.Core.List.{List, [], _∷_, _++_}
-use mathlib.Core.Bool.{Bool, true, false, _&&_, _||_, false≢true}
+use mathlib.Core.Bool.{Bool, true, false, _&&_, _||_}
 use Prim.Native.Nat.{ℕ, zero, suc, _+_, _^_, _<_, _≤_, max}
 use native.Mathlib.Omega.{arith}
 use native.Mathlib.Nat.{div-eq-of-lt}
@@ -12,6 +12,7 @@ use Rattle.robinx.specs.Sums.{sumTo, maxTo, catTo, anyTo, only, onlyL}
 use Rattle.robinx.specs.Groups.{bit, has, reaches, isPair}
 use Rattle.robinx.specs.Timetable.{lastWas, lastSlot}
 use Rattle.robinx.specs.Deviations.{each, eachPair, over, worst}
+use Rattle.robinx.proofs.Sums.{and-yes}
 
 pub only-ext : (b : Bool) {u v : ℕ} → (b ≡ true → u ≡ v) → only b u ≡ only b v
 only-ext true h = h refl
@@ -45,19 +46,13 @@ pub each-ext : (n T : ℕ) {f g : ℕ → ℕ} → ((t : ℕ) → t < n → has 
 unfolding each
 each-ext n T h = cat-ext n (λ t l. onlyL-ext (has T t) (λ e. ap (λ (v : ℕ). v ∷ []) (h t l e)))
 
--- the two members of a pair
-pub pair-members : (a b c : Bool) → a && b && c ≡ true → (a ≡ true) × (b ≡ true)
-pair-members true true c h = (refl, refl)
-pair-members true false c h = (refl, h)
-pair-members false b c h = (h, absurd (false≢true h))
-
 pub eachPair-ext : (n T : ℕ) {f g : ℕ → ℕ → ℕ}
     → ((i j : ℕ) → i < n → j < n → has T i ≡ true → has T j ≡ true → f i j ≡ g i j)
     → eachPair n T f ≡ eachPair n T g
 unfolding eachPair
 eachPair-ext n T h =
     cat-ext n (λ i li. cat-ext n (λ j lj. onlyL-ext (isPair T i j) (λ e.
-    let m = pair-members (has T i) (has T j) (ltb i j) e in
+    let m = and-yes (has T i) (has T j) (and-yes (has T i && has T j) (ltb i j) e .0) in
     ap (λ (v : ℕ). v ∷ []) (h i j li lj (m .0) (m .1)))))
 
 pub over-ext : (P S : ℕ) {f g : ℕ → ℕ} → ((k : ℕ) → k < P → has S k ≡ true → f k ≡ g k) → over P S f ≡ over P S g
