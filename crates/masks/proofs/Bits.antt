@@ -1,7 +1,7 @@
 -- Bits of and, or, xor, of a single slot and of shifted numbers, for numbers of any width.
 use mathlib.Core.Path.{_≡_, refl, sym, ap, ap₂, _∙_}
 use mathlib.Core.Bool.{Bool, true, false, _&&_, _||_}
-use Prim.Native.Nat.{ℕ, zero, suc, _+_, _-_, _*_, _/_, _%_, _^_, _<_, min, max, compare·suc-suc}
+use Prim.Native.Nat.{ℕ, zero, suc, _+_, _*_, _/_, _%_, _^_, _<_, min, max, compare·suc-suc}
 use native.Mathlib.Omega.{arith}
 use native.Mathlib.Numerals.{add-one}
 use native.Mathlib.Nat.{mod-lt, pow-suc, mul-div-mul-right, div-one, div-eq-of-lt, mul-mod-left, zero-lt-suc, zero-div, add-comm}
@@ -14,40 +14,39 @@ use Rattle.robinx.specs.Sums.{only}
 use Rattle.robinx.specs.Groups.{bit, has}
 use Rattle.robinx.proofs.Sizes.{only-bit}
 
--- what holds of 0 and 1 holds of digits
-pub digits : (P : ℕ → ℕ → Type 0) → P 0 0 → P 0 1 → P 1 0 → P 1 1 → (x y : ℕ) → x < 2 → y < 2 → P x y
-digits P a b c d zero zero p q = a
-digits P a b c d zero (suc zero) p q = b
-digits P a b c d (suc zero) zero p q = c
-digits P a b c d (suc zero) (suc zero) p q = d
-digits P a b c d zero (suc (suc y)) p q = absurd (omega arith)
-digits P a b c d (suc zero) (suc (suc y)) p q = absurd (omega arith)
-digits P a b c d (suc (suc x)) y p q = absurd (omega arith)
-
 pub bit-lt : (m k : ℕ) → bit m k < 2
 bit-lt m k = mod-lt (m / 2 ^ k) (zero-lt-suc 1)
 
--- .. of bits
+-- what holds of 0 and 1 holds of bits
 pub at-bits : (P : ℕ → ℕ → Type 0) → P 0 0 → P 0 1 → P 1 0 → P 1 1 → (m n k : ℕ) → P (bit m k) (bit n k)
-at-bits P a b c d m n k = digits P a b c d (bit m k) (bit n k) (bit-lt m k) (bit-lt n k)
+at-bits P a b c d m n k = go (bit m k) (bit n k) (bit-lt m k) (bit-lt n k)
+  where
+    go : (x y : ℕ) → x < 2 → y < 2 → P x y
+    go zero zero p q = a
+    go zero (suc zero) p q = b
+    go (suc zero) zero p q = c
+    go (suc zero) (suc zero) p q = d
+    go zero (suc (suc y)) p q = absurd (omega arith)
+    go (suc zero) (suc (suc y)) p q = absurd (omega arith)
+    go (suc (suc x)) y p q = absurd (omega arith)
 
-digit-lt : (f : ℕ → ℕ → ℕ) → f 0 0 < 2 → f 0 1 < 2 → f 1 0 < 2 → f 1 1 < 2 → (m n k : ℕ) → f (bit m k) (bit n k) < 2
-digit-lt f = at-bits (λ x y. f x y < 2)
+-- an operation that goes digit by digit
+by-digits : (op digit : ℕ → ℕ → ℕ) → ((m n k : ℕ) → op m n / 2 ^ k ≡ op (m / 2 ^ k) (n / 2 ^ k))
+    → ((m n : ℕ) → op m n ≡ op (m / 2) (n / 2) * 2 + digit (m % 2) (n % 2))
+    → digit 0 0 < 2 → digit 0 1 < 2 → digit 1 0 < 2 → digit 1 1 < 2
+    → (m n k : ℕ) → bit (op m n) k ≡ digit (bit m k) (bit n k)
+by-digits op digit shr step a b c d m n k =
+    ap (λ (z : ℕ). z % 2) (shr m n k ∙ step (m / 2 ^ k) (n / 2 ^ k))
+    ∙ digits-mod (op (m / 2 ^ k / 2) (n / 2 ^ k / 2)) (at-bits (λ x y. digit x y < 2) a b c d m n k)
 
 pub and-bit : (m n k : ℕ) → bit (bitAnd m n) k ≡ min (bit m k) (bit n k)
-and-bit m n k =
-    ap (λ (z : ℕ). z % 2) (and-shr m n k ∙ and-step (m / 2 ^ k) (n / 2 ^ k))
-    ∙ digits-mod (bitAnd (m / 2 ^ k / 2) (n / 2 ^ k / 2)) (digit-lt min (lit< tt) (lit< tt) (lit< tt) (lit< tt) m n k)
+and-bit = by-digits bitAnd min and-shr and-step (lit< tt) (lit< tt) (lit< tt) (lit< tt)
 
 pub or-bit : (m n k : ℕ) → bit (bitOr m n) k ≡ max (bit m k) (bit n k)
-or-bit m n k =
-    ap (λ (z : ℕ). z % 2) (or-shr m n k ∙ or-step (m / 2 ^ k) (n / 2 ^ k))
-    ∙ digits-mod (bitOr (m / 2 ^ k / 2) (n / 2 ^ k / 2)) (digit-lt max (lit< tt) (lit< tt) (lit< tt) (lit< tt) m n k)
+or-bit = by-digits bitOr max or-shr or-step (lit< tt) (lit< tt) (lit< tt) (lit< tt)
 
 pub xor-bit : (m n k : ℕ) → bit (bitXor m n) k ≡ differ (bit m k) (bit n k)
-xor-bit m n k =
-    ap (λ (z : ℕ). z % 2) (xor-shr m n k ∙ xor-step (m / 2 ^ k) (n / 2 ^ k))
-    ∙ digits-mod (bitXor (m / 2 ^ k / 2) (n / 2 ^ k / 2)) (digit-lt differ (lit< tt) (lit< tt) (lit< tt) (lit< tt) m n k)
+xor-bit = by-digits bitXor differ xor-shr xor-step (lit< tt) (lit< tt) (lit< tt) (lit< tt)
 
 pub and-has : (m n k : ℕ) → has (bitAnd m n) k ≡ has m k && has n k
 and-has m n k = ap (λ (z : ℕ). eqb z 1) (and-bit m n k) ∙ at-bits (λ x y. eqb (min x y) 1 ≡ eqb x 1 && eqb y 1) refl refl refl refl m n k

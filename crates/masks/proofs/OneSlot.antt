@@ -1,14 +1,14 @@
 -- A mask with a slot, and without it.
-use mathlib.Core.Path.{_≡_, refl, sym, ap, ap₂, _∙_}
+use mathlib.Core.Path.{_≡_, refl, ap, ap₂, _∙_}
 use mathlib.Core.Bool.{Bool, true, false}
 use Prim.Native.Nat.{ℕ, _+_, _^_, _<_, max}
 use native.Mathlib.Omega.{arith}
-use lib.Bits.{differ, bitOr, bitXor, or-lt, xor-lt}
+use lib.Bits.{differ, or-lt, xor-lt}
 use lib.Pow.{pow-lt}
 use lib.Dec.{eqb}
 use borrow.Author.Tests.{eqb-true, eqb-false, eq-eqb, ne-eqb}
 use Rattle.robinx.specs.Sums.{only}
-use Rattle.robinx.specs.Groups.{bit, has}
+use Rattle.robinx.specs.Groups.{bit}
 use Rattle.masks.specs.Masks.{joined, without}
 use Rattle.masks.proofs.Bits.{at-bits, bit-lt, or-bit, xor-bit, one-bit}
 

@@ -1,17 +1,15 @@
 -- Rows laid for masks, and that what is read off them are the definitions.
-use mathlib.Core.Path.{_≡_, refl, sym, ap, ap₂, _∙_}
+use mathlib.Core.Path.{_≡_, refl, ap, ap₂, _∙_}
 use mathlib.Core.Bool.{Bool, true, false}
 use mathlib.Core.List.{List}
-use Prim.Native.Nat.{ℕ, zero, suc, _+_, _-_, _^_, _<_, _≤_, max}
+use Prim.Native.Nat.{ℕ, zero, suc, _+_, _-_, _^_, _<_, _≤_}
 use native.Mathlib.Omega.{arith}
 use native.Mathlib.Numerals.{add-one}
 use native.Mathlib.Nat.{add-zero, add-suc}
-use lib.Arith.{lt-of-le-ne}
 use lib.Dec.{eqb}
 use lib.ListN.{getD, set, length, length-set}
 use lib.Seq.{getD-set-same, getD-set-other}
 use borrow.Author.Count.{below-none, below-more}
-use borrow.Author.Tests.{eqb-true, eqb-false}
 use Rattle.robinx.specs.Sums.{sumTo, maxTo, only, dist}
 use Rattle.robinx.specs.Groups.{bit, has}
 use Rattle.robinx.specs.Deviations.{worst, outside, inRun}

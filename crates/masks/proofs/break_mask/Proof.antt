@@ -1,5 +1,5 @@
 -- `masks::break_mask` meets its contract. The shift and the sum both wrap at 2 ^ 64, which is to wrap once. Assumes nothing.
-use mathlib.Core.Path.{_≡_, ap, _∙_}
+use mathlib.Core.Path.{ap, _∙_}
 use Prim.Native.Nat.{ℕ, _-_, _*_, _^_}
 use native.Mathlib.Nat.{add-mod-mod}
 use lib.Bits.{bitAnd}

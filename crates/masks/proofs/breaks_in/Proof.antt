@@ -1,5 +1,5 @@
 -- `masks::breaks_in` meets its contract. Assumes nothing.
-use mathlib.Core.Path.{_≡_, _∙_}
+use mathlib.Core.Path.{_∙_}
 use borrow.Author.Needs.{needs}
 use Rattle.robinx.proofs.Ext.{over-ext}
 use Rattle.masks.proofs.breaks_in.Statement.{statement}

@@ -1,7 +1,7 @@
 -- `masks::closeness` meets its contract. Before each turn the sum is that of the slots up to the last game, and the rest is the mask
 -- from there on. Assumes nothing.
 use mathlib.Core.Path.{_≡_, refl, sym, _∙_}
-use Prim.Native.Nat.{ℕ, _+_, _-_, _*_, _/_, _^_, _≤_, _<_}
+use Prim.Native.Nat.{_-_, _*_, _/_, _^_, _≤_}
 use native.Mathlib.Omega.{arith}
 use native.Mathlib.Nat.{div-one}
 use borrow.Author.Needs.{needs}

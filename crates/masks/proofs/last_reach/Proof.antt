@@ -1,5 +1,5 @@
 -- `masks::last_reach` meets its contract. Assumes nothing.
-use mathlib.Core.Path.{_≡_, ap}
+use mathlib.Core.Path.{ap}
 use Prim.Native.Nat.{ℕ}
 use lib.Dec.{leb}
 use borrow.Author.Needs.{needs}

@@ -1,7 +1,7 @@
 -- `masks::lay` meets its contract. Assumes nothing.
 use denote.Ref.{now}
 use mathlib.Core.Path.{_≡_, refl}
-use Prim.Native.Nat.{ℕ, _+_, _-_, _≤_}
+use Prim.Native.Nat.{_-_, _≤_}
 use native.Mathlib.Omega.{arith}
 use Rattle.robinx.specs.Sums.{sumTo}
 use Rattle.robinx.specs.Groups.{bit}

@@ -1,5 +1,4 @@
 -- `masks::too_close` meets its contract. Assumes nothing.
-use native.Mathlib.Omega.{arith}
 use borrow.Author.Needs.{needs}
 use borrow.Author.Tests.{lt-ltb, le-ltb}
 use Rattle.masks.proofs.too_close.Statement.{statement}
