@@ -13,6 +13,7 @@ use Rattle.robinx.specs.Sums.{only}
 use Rattle.robinx.specs.Groups.{bit, has}
 use Rattle.robinx.specs.Timetable.{lastWas}
 use Rattle.robinx.proofs.Sums.{only-le}
+use Rattle.robinx.proofs.Ext.{lastWas-ext}
 use Rattle.masks.specs.Masks.{Within, isBreak}
 use Rattle.masks.proofs.Bits.{at-bits, and-bit, or-bit, half-bit}
 
@@ -88,3 +89,10 @@ within-left m n k = omega (arith, or-bit m n k)
 
 pub within-right : (m n : ℕ) → Within n (bitOr m n)
 within-right m n k = omega (arith, or-bit m n k)
+
+-- breaks of masks that are the tests of slots in question
+pub break-is : (side all k : ℕ) {game onSide : ℕ → Bool}
+    → ((a : ℕ) → a < suc k → has all a ≡ game a)
+    → ((a : ℕ) → a < suc k → has side a ≡ onSide a)
+    → isBreak side all k ≡ onSide k && lastWas game onSide k
+break-is side all k g s = ap₂ _&&_ (s k (omega arith)) (lastWas-ext k (λ a l. g a (omega arith)) (λ a l. s a (omega arith)))

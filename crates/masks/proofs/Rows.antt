@@ -22,7 +22,7 @@ pub laid-more : (row : List ℕ) (f : ℕ → ℕ) (k : ℕ) {r : List ℕ} {q :
 unfolding laid
 laid-more row f k p e = rw (add-one, ← p, ← e)
 
-laid-length : (row : List ℕ) (f : ℕ → ℕ) (k : ℕ) → length (laid row f k) ≡ length row
+pub laid-length : (row : List ℕ) (f : ℕ → ℕ) (k : ℕ) → length (laid row f k) ≡ length row
 unfolding laid
 laid-length row f zero = refl
 laid-length row f (suc k) = simp length-set (laid-length row f k)
@@ -64,7 +64,7 @@ farthest-of a b e u v S P h l ha hb he =
     max-ext 64 (λ k lk.
     ap₂ (λ (t d : ℕ). only (eqb t 1) d) (he k lk)
     (ap₂ dist (ha (k + 1) (omega arith) ∙ ap (sumTo (bit u)) (add-one k)) (hb (k + 1) (omega arith) ∙ ap (sumTo (bit v)) (add-one k))))
-    ∙ worst-stop S P h 64 (λ k. dist (sumTo (bit u) (suc k)) (sumTo (bit v) (suc k))) l
+    ∙ worst-stop P 64 l S (λ k. dist (sumTo (bit u) (suc k)) (sumTo (bit v) (suc k))) h
 
 -- the largest of f less c is the largest f, less c
 only-less : (t : Bool) (v c : ℕ) → only t (v - c) ≡ only t v - c

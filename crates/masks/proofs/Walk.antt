@@ -1,20 +1,20 @@
 -- Walking the set bits of a mask: the slots passed over change nothing.
 use mathlib.Core.Path.{_≡_, refl, sym, ap, _∙_}
-use mathlib.Core.Bool.{Bool, true, false, true≢false}
+use mathlib.Core.Bool.{Bool, true, false}
 use Prim.Native.Nat.{ℕ, zero, suc, _+_, _-_, _*_, _/_, _%_, _^_, _<_, _≤_}
 use native.Mathlib.Omega.{arith}
 use native.Mathlib.Numerals.{add-one}
-use native.Mathlib.Nat.{pow-suc, div-one, add-zero, add-suc, mod-lt}
+use native.Mathlib.Nat.{pow-suc, div-one, mod-lt}
 use lib.Dec.{eqb, ltb}
 use lib.Pow.{pow-pos, shr-shr, shr-le, split}
 use lib.Count.{trailingZeros, under}
-use borrow.Author.Tests.{ltb-true, ltb-false}
 use Rattle.robinx.specs.Sums.{only, sumTo}
 use Rattle.robinx.specs.Groups.{bit, has}
 use Rattle.robinx.specs.Timetable.{lastSlot}
 use Rattle.robinx.specs.Deviations.{tooClose}
+use Rattle.robinx.proofs.Ext.{sum-ext, lastSlot-ext}
 use Rattle.masks.proofs.Bits.{shift-bit, half-bit}
-use Rattle.masks.proofs.Width.{none-past, close-stop}
+use Rattle.masks.proofs.Width.{in-below, stop, close-stop, closeness-stop}
 
 -- the lowest set bit, and zeros below it
 record Lowest (K m z : ℕ) : Type 0 where
@@ -42,18 +42,11 @@ lowest (suc K) m p h = go (m % 2) refl (λ e. lowest K (m / 2) (omega arith) (om
     }
     go (suc d) e ih = record { below = omega arith; set = low-bit m ∙ omega arith; clear = λ i l. absurd (omega arith) }
 
-in-below : (K m k : ℕ) → m < 2 ^ K → has m k ≡ true → k < K
-in-below K m k h e = go (ltb k K) refl
-  where
-    go : (t : Bool) → ltb k K ≡ t → k < K
-    go true t = ltb-true k K t
-    go false t = absurd (true≢false (sym e ∙ none-past m K h k (ltb-false k K t)))
-
 -- what a turn of the walk finds from slot k on: z free slots and a game; next is what is left of the mask
 pub record Turn (v k z next : ℕ) : Type 0 where
   pub room : k + z < 64
   pub game : has v (k + z) ≡ true
-  pub free : (i : ℕ) → i < z → has v (k + i) ≡ false
+  pub free : (i : ℕ) → k ≤ i → i < k + z → has v i ≡ false
   pub left : next ≡ v / 2 ^ (k + z + 1)
 
 pub turn : (v k rest : ℕ) → v < 2 ^ 64 → rest ≡ v / 2 ^ k → (rest ≡ 0 → ⊥)
@@ -64,9 +57,10 @@ turn v k rest h e n =
     let same : (i : ℕ) → bit v (k + i) ≡ bit rest i = λ i. sym (shift-bit v k i) ∙ ap (λ (r : ℕ). bit r i) (sym e) in
     let one : has v (k + z) ≡ true = ap (λ (b : ℕ). eqb b 1) (same z ∙ f .set) in
     record {
-      room = in-below 64 v (k + z) h one;
+      room = in-below v 64 h (k + z) one;
       game = one;
-      free = λ i l. ap (λ (b : ℕ). eqb b 1) (same i ∙ f .clear i l);
+      free = λ i a b.
+          let at : i ≡ k + (i - k) = omega arith in ap (λ (b : ℕ). eqb b 1) (ap (bit v) at ∙ same (i - k) ∙ f .clear (i - k) (omega arith));
       left = ap (λ (r : ℕ). r / 2 ^ z / 2) e ∙ ap (λ (r : ℕ). r / 2) (shr-shr v k z) ∙ shr-shr v (k + z) 1;
     }
 
@@ -74,23 +68,19 @@ turn v k rest h e n =
 pub walked : (v k w : ℕ) → k ≤ 64 → 0 ≡ v / 2 ^ k → sumTo (tooClose (has v) w) 64 ≡ sumTo (tooClose (has v) w) k
 walked v k w l e =
     let s : 0 * 2 ^ k + v % 2 ^ k ≡ v = ap (λ (z : ℕ). z * 2 ^ k + v % 2 ^ k) e ∙ split v k in
-    close-stop v k (omega (arith, s, mod-lt v (pow-pos k))) 64 w l
+    closeness-stop k 64 l v w (omega (arith, s, mod-lt v (pow-pos k)))
 
-module _ (game : ℕ → Bool) (w k : ℕ) where
-  -- slots without a game
-  passed : (z : ℕ) → ((i : ℕ) → i < z → game (k + i) ≡ false)
-      → (sumTo (tooClose game w) (k + z) ≡ sumTo (tooClose game w) k) × (lastSlot game (k + z) ≡ lastSlot game k)
-  unfolding sumTo tooClose lastSlot
-  passed zero h = rw add-zero (refl, refl)
-  passed (suc z) h =
-      let old = passed z (λ i l. h i (omega arith)) in
-      rw (add-suc, h z (omega arith)) (omega (arith, old .0), old .1)
+-- the game after slots without one
+pub found : (game : ℕ → Bool) (w k z : ℕ) → game (k + z) ≡ true → ((i : ℕ) → k ≤ i → i < k + z → game i ≡ false) → {c last r : ℕ}
+    → c ≡ sumTo (tooClose game w) k → last ≡ lastSlot game k → r ≡ only (ltb 0 last) (w - (k + z + 1 - last))
+    → (c + r ≡ sumTo (tooClose game w) (k + z + 1)) × (k + z + 1 ≡ lastSlot game (k + z + 1))
+unfolding sumTo tooClose lastSlot
+found game w k z e free {c} p q t =
+    let sum = close-stop k (k + z) (omega arith) game w free in
+    let last = stop k (k + z) (omega arith) (lastSlot game) (λ i a b. rw (free i a b)) in
+    rw (add-one (k + z), e, last, ← q, sum, ← p, ← add-one (k + z)) (ap (λ (n : ℕ). c + n) t, refl)
 
-  -- the game after them
-  pub found : (z : ℕ) → game (k + z) ≡ true → ((i : ℕ) → i < z → game (k + i) ≡ false) → {c last r : ℕ}
-      → c ≡ sumTo (tooClose game w) k → last ≡ lastSlot game k → r ≡ only (ltb 0 last) (w - (k + z + 1 - last))
-      → (c + r ≡ sumTo (tooClose game w) (k + z + 1)) × (k + z + 1 ≡ lastSlot game (k + z + 1))
-  unfolding sumTo tooClose lastSlot
-  found z e h {c} p q t =
-      let old = passed z h in
-      rw (add-one (k + z), e, old .1, ← q, old .0, ← p, ← add-one (k + z)) (ap (λ (n : ℕ). c + n) t, refl)
+-- closeness by equal tests of slots
+pub close-ext : (w P : ℕ) {p q : ℕ → Bool} → ((k : ℕ) → k < P → p k ≡ q k) → sumTo (tooClose p w) P ≡ sumTo (tooClose q w) P
+unfolding tooClose
+close-ext w P h = sum-ext P (λ k l. rw (h k l, lastSlot-ext k (λ a la. h a (omega arith))))

@@ -1,6 +1,7 @@
 // Masks of slots: bit k of a u64 stands for slot k, counted from 0. Everything that knows how many slots a mask has is in here.
 ghost use mathlib.Core.Path.{_≡_};
-ghost use Prim.Native.Nat.{ℕ, _+_, _-_, _<_, _≤_, _^_, max};
+ghost use Prim.Native.Nat.{_+_, _-_, _<_, _≤_, _^_, max};
+ghost use lib.Bits.{bitOr};
 ghost use lib.Dec.{eqb, ltb};
 ghost use Rattle.robinx.specs.Sums.{only, sumTo, dist};
 ghost use Rattle.robinx.specs.Groups.{bit, has, reaches};
@@ -49,6 +50,13 @@ pub fn without(m: u64, k: u64) -> u64
     (m | b) ^ b
 }
 
+// The slots of either mask.
+pub fn union(m: u64, n: u64) -> u64
+    ensures { λ r. ⌜ r ≡ bitOr m n ⌝ }
+{
+    m | n
+}
+
 // How many slots of m are in s.
 pub fn count_in(m: u64, s: u64) -> u32
     ensures { λ r. ⌜ r ≡ over 64 s (bit m) ⌝ }
@@ -59,7 +67,7 @@ pub fn count_in(m: u64, s: u64) -> u32
 // The slots of the breaks of a side, whose games are some of all.
 fn break_mask(side: u64, all: u64) -> u64
     requires { ⌜ Within side all ⌝ }
-    ensures { λ r. ⌜ Breaks side all r ⌝ }
+    ensures { λ r. ⌜ Breaks 64 side all r ⌝ }
 {
     side & std::num::wrapping_add_u64(u64::MAX - all, side << 1)
 }
