@@ -1,0 +1,77 @@
+-- `masks::farthest` meets its contract. Assumes nothing.
+use mathlib.Core.Path.{_≡_, refl}
+use Prim.Native.Nat.{_-_, _≤_}
+use native.Mathlib.Omega.{arith}
+use native.Mathlib.Numerals.{add-one}
+use Rattle.robinx.specs.Sums.{maxTo}
+use Rattle.masks.specs.Rows.{farthestTo}
+use borrow.Author.Needs.{needs}
+use Rattle.masks.proofs.farthest.Statement.{statement}
+use Rattle.masks.proofs.farthest.Tie as tie
+
+abbrev Inv-loop : tie.InvT-loop
+Inv-loop a b e m₀ k₀ m k = (k ≤ 64) × (m ≡ farthestTo a b e k)
+
+abbrev μ-loop : tie.MeasureT-loop
+μ-loop a b e m₀ k₀ m k = 64 - k
+
+loop-holds : tie.Need-loop-holds Inv-loop μ-loop
+unfolding farthestTo maxTo
+loop-holds c = (search needs, refl)
+
+element-copy-out-gap-if : tie.Need-element-copy-out-gap-if Inv-loop μ-loop
+element-copy-out-gap-if c = search needs
+
+add-gap-if : tie.Need-add-gap-if Inv-loop μ-loop
+add-gap-if c = search needs
+
+element-copy-out-gap-if-2 : tie.Need-element-copy-out-gap-if-2 Inv-loop μ-loop
+element-copy-out-gap-if-2 c = search needs
+
+add-gap-if-2 : tie.Need-add-gap-if-2 Inv-loop μ-loop
+add-gap-if-2 c = search needs
+
+element-copy-out-gap-if-3 : tie.Need-element-copy-out-gap-if-3 Inv-loop μ-loop
+element-copy-out-gap-if-3 c = search needs
+
+gap-if-requires : tie.Need-gap-if-requires Inv-loop μ-loop
+gap-if-requires c κs = search needs
+
+larger-requires : tie.Need-larger-requires Inv-loop μ-loop
+larger-requires c κs = search needs
+
+add-k : tie.Need-add-k Inv-loop μ-loop
+add-k c = search needs
+
+loop-less : tie.Need-loop-less Inv-loop μ-loop
+loop-less c = search needs
+
+loop-again : tie.Need-loop-again Inv-loop μ-loop
+unfolding farthestTo maxTo
+loop-again c =
+    let l = c .before .before .before .before .before .before .loop in
+    (search needs, rw (add-one, ← l .inv .1, ← c .before .gap-if .ensures) (c .larger .ensures))
+
+returns : tie.Need-returns Inv-loop μ-loop
+returns c =
+    let l = c .before .loop in
+    let e : l .k ≡ 64 = omega arith in rw (← e) (l .inv .1)
+
+pub farthest-spec : {M : Type 1} → statement M
+farthest-spec =
+    tie.close
+    (tie.spec
+    Inv-loop
+    μ-loop
+    loop-holds
+    element-copy-out-gap-if
+    add-gap-if
+    element-copy-out-gap-if-2
+    add-gap-if-2
+    element-copy-out-gap-if-3
+    gap-if-requires
+    larger-requires
+    add-k
+    loop-less
+    loop-again
+    returns)

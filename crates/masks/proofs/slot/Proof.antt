@@ -1,0 +1,14 @@
+-- `masks::slot` meets its contract: below 64 the shift loses nothing. Assumes nothing.
+use Rattle.masks.proofs.Bits.{one-shl}
+use borrow.Author.Needs.{needs}
+use Rattle.masks.proofs.slot.Statement.{statement}
+use Rattle.masks.proofs.slot.Tie as tie
+
+shl-result : tie.Need-shl-result
+shl-result c = search needs
+
+returns : tie.Need-returns
+returns c = one-shl (c .args .k) (search needs)
+
+pub slot-spec : {M : Type 1} → statement M
+slot-spec = tie.close (tie.spec shl-result returns)

@@ -1,0 +1,33 @@
+-- Masks of slots as plain numbers of any width.
+use mathlib.Core.Path.{_≡_}
+use mathlib.Core.Bool.{Bool, _&&_}
+use Prim.Native.Nat.{ℕ, zero, suc, _^_, _<_, _≤_}
+use lib.Bits.{bitOr, bitXor}
+use Rattle.robinx.specs.Sums.{only}
+use Rattle.robinx.specs.Groups.{bit, has}
+use Rattle.robinx.specs.Timetable.{lastWas}
+
+-- the mask with slot k
+abbrev pub joined : ℕ → ℕ → ℕ
+joined m k = bitOr m (2 ^ k)
+
+-- the mask without slot k
+abbrev pub without : ℕ → ℕ → ℕ
+without m k = bitXor (bitOr m (2 ^ k)) (2 ^ k)
+
+-- the union of f 0, .., f (n − 1)
+unfoldable pub unionTo : (ℕ → ℕ) → ℕ → ℕ
+unionTo f zero = 0
+unionTo f (suc k) = bitOr (unionTo f k) (f k)
+
+-- every slot of m is one of n
+abbrev pub Within : ℕ → ℕ → Type 0
+Within m n = (k : ℕ) → bit m k ≤ bit n k
+
+-- slot k has a game of the side, and the last game before it was of the side too
+abbrev pub isBreak : ℕ → ℕ → ℕ → Bool
+isBreak side all k = has side k && lastWas (has all) (has side) k
+
+-- of the first n slots the mask has those of the side's breaks
+abbrev pub Breaks : ℕ → ℕ → ℕ → ℕ → Type 0
+Breaks n side all m = (k : ℕ) → k < n → bit m k ≡ only (isBreak side all k) 1

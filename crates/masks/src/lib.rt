@@ -1,0 +1,196 @@
+// Masks of slots: bit k of a u64 stands for slot k, counted from 0. Everything that knows how many slots a mask has is in here.
+ghost use mathlib.Core.Path.{_≡_};
+ghost use Prim.Native.Nat.{_+_, _-_, _<_, _≤_, _^_, max};
+ghost use lib.Bits.{bitOr};
+ghost use lib.Dec.{eqb, ltb};
+ghost use Rattle.robinx.specs.Sums.{only, sumTo, dist};
+ghost use Rattle.robinx.specs.Groups.{bit, has, reaches};
+ghost use Rattle.robinx.specs.Deviations.{over, outside, tooClose};
+ghost use Rattle.masks.specs.Masks.{joined, without, Within, isBreak, Breaks};
+ghost use Rattle.masks.specs.Rows.{laid, farthestTo, runsTo};
+
+// Slot k is in the mask.
+pub fn is_in(s: u64, k: u64) -> bool
+    requires { ⌜ k < 64 ⌝ }
+    ensures { λ r. ⌜ r ≡ has s k ⌝ }
+{
+    (s >> k) % 2 == 1
+}
+
+// The mask of one slot.
+pub fn slot(k: u64) -> u64
+    requires { ⌜ k < 64 ⌝ }
+    ensures { λ r. ⌜ r ≡ 2 ^ k ⌝ }
+{
+    1u64 << k
+}
+
+// Slot k is at or before the last one of the mask.
+pub fn last_reach(s: u64, k: u64) -> bool
+    requires { ⌜ k < 64 ⌝ }
+    ensures { λ r. ⌜ r ≡ reaches s k ⌝ }
+{
+    slot(k) <= s
+}
+
+// The mask with slot k.
+pub fn joined(m: u64, k: u64) -> u64
+    requires { ⌜ k < 64 ⌝ }
+    ensures { λ r. ⌜ r ≡ joined m k ⌝ }
+{
+    m | slot(k)
+}
+
+// The mask without slot k.
+pub fn without(m: u64, k: u64) -> u64
+    requires { ⌜ k < 64 ⌝ }
+    ensures { λ r. ⌜ r ≡ without m k ⌝ }
+{
+    let b = slot(k);
+    (m | b) ^ b
+}
+
+// The slots of either mask.
+pub fn union(m: u64, n: u64) -> u64
+    ensures { λ r. ⌜ r ≡ bitOr m n ⌝ }
+{
+    m | n
+}
+
+// How many slots of m are in s.
+pub fn count_in(m: u64, s: u64) -> u32
+    ensures { λ r. ⌜ r ≡ over 64 s (bit m) ⌝ }
+{
+    u64::count_ones(m & s)
+}
+
+// The slots of the breaks of a side, whose games are some of all.
+fn break_mask(side: u64, all: u64) -> u64
+    requires { ⌜ Within side all ⌝ }
+    ensures { λ r. ⌜ Breaks 64 side all r ⌝ }
+{
+    side & std::num::wrapping_add_u64(u64::MAX - all, side << 1)
+}
+
+// The breaks of a side in the slots of s.
+pub fn breaks_in(side: u64, all: u64, s: u64) -> u32
+    requires { ⌜ Within side all ⌝ }
+    ensures { λ r. ⌜ r ≡ over 64 s (λ k. only (isBreak side all k) 1) ⌝ }
+{
+    count_in(break_mask(side, all), s)
+}
+
+// How much closer than w slots a game in slot s is to the last one before it. Both count from 1, and 0 is none.
+fn too_close(w: u8, s: u32, last: u32) -> u32
+    requires { ⌜ last < s ⌝ }
+    ensures { λ r. ⌜ (r ≡ only (ltb 0 last) (w - (s - last))) × (r ≤ 255) ⌝ }
+{
+    if last == 0 {
+        return 0;
+    }
+    let gap = s - last;
+    let least = w as u32;
+    if gap < least { least - gap } else { 0 }
+}
+
+// How much closer than w slots the games of the mask are to those before them, summed: from one set bit to the next.
+pub fn closeness(v: u64, w: u8) -> u32
+    ensures { λ r. ⌜ r ≡ sumTo (tooClose (has v) w) 64 ⌝ }
+{
+    let mut c: u32 = 0;
+    let mut last: u32 = 0;
+    let mut rest = v;
+    while rest != 0 {
+        let z = u64::trailing_zeros(rest);
+        let s = last + z + 1;
+        c += too_close(w, s, last);
+        last = s;
+        rest = (rest >> z) >> 1;
+    }
+    c
+}
+
+// A row of the mask: 1 for each of its slots, 0 for the others.
+pub fn spread(s: u64, row: &mut [u8; 64])
+    ensures { λ _. ⌜ now (row .exit) ≡ laid (now (row .entry)) (bit s) 64 ⌝ }
+{
+    let mut k = 0;
+    while k < 64 {
+        row[k] = ((s >> k) % 2) as u8;
+        k += 1;
+    }
+}
+
+// A row of running counts: how many slots of v are before each place from 0 to 64.
+pub fn lay(v: u64, row: &mut [u8; 65])
+    ensures { λ _. ⌜ now (row .exit) ≡ laid (now (row .entry)) (sumTo (bit v)) 65 ⌝ }
+{
+    let mut q: u8 = 0;
+    let mut k = 0;
+    while k < 64 {
+        row[k] = q;
+        q += ((v >> k) % 2) as u8;
+        k += 1;
+    }
+    row[64] = q;
+}
+
+fn larger(x: u8, y: u8) -> u8
+    ensures { λ r. ⌜ r ≡ max x y ⌝ }
+{
+    if x < y { y } else { x }
+}
+
+fn less(x: u8, y: u8) -> u8
+    ensures { λ r. ⌜ r ≡ x - y ⌝ }
+{
+    if y < x { x - y } else { 0 }
+}
+
+fn gap(x: u8, y: u8) -> u8
+    ensures { λ r. ⌜ r ≡ dist x y ⌝ }
+{
+    if x < y { y - x } else { x - y }
+}
+
+fn gap_if(e: u8, x: u8, y: u8) -> u8
+    ensures { λ r. ⌜ r ≡ only (eqb e 1) (dist x y) ⌝ }
+{
+    if e == 1 {
+        return gap(x, y);
+    }
+    0
+}
+
+// The largest distance of two rows of counts after each slot that the third row has.
+pub fn farthest(a: &[u8; 65], b: &[u8; 65], e: &[u8; 64]) -> u8
+    ensures { λ r. ⌜ r ≡ farthestTo (now (a .entry)) (now (b .entry)) (now (e .entry)) 64 ⌝ }
+{
+    let mut m: u8 = 0;
+    let mut k = 0;
+    while k < 64 {
+        m = larger(m, gap_if(e[k], a[k + 1], b[k + 1]));
+        k += 1;
+    }
+    m
+}
+
+fn off(low: u8, high: u8, c: u8) -> u8
+    ensures { λ r. ⌜ r ≡ outside low high c ⌝ }
+{
+    larger(less(low, c), less(c, high))
+}
+
+// How far the counts of the first n runs of w slots are outside low .. high, summed.
+pub fn runs(row: &[u8; 65], w: usize, low: u8, high: u8, n: usize) -> u32
+    requires { ⌜ n ≤ 65 - w ⌝ }
+    ensures { λ r. ⌜ r ≡ runsTo (now (row .entry)) w low high n ⌝ }
+{
+    let mut c: u32 = 0;
+    let mut k = 0;
+    while k < n {
+        c += off(low, high, less(row[k + w], row[k])) as u32;
+        k += 1;
+    }
+    c
+}
