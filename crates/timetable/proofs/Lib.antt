@@ -1,0 +1,4 @@
+pub mod Points
+pub mod Tied
+pub mod Sheet
+pub mod Clash
