@@ -2,3 +2,5 @@ pub mod Points
 pub mod Tied
 pub mod Sheet
 pub mod Clash
+pub mod Games
+pub mod Laws

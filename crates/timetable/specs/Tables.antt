@@ -9,6 +9,7 @@ use lib.ListN.{length, getD, set}
 use Rattle.robinx.specs.Sums.{sumTo, only}
 use Rattle.robinx.specs.Groups.{bit, has}
 use Rattle.robinx.specs.Timetable.{X, meetings, clash}
+use Rattle.masks.specs.Masks.{joined, without}
 
 -- where the mask of i hosting j stands
 abbrev pub cell : ℕ → ℕ → ℕ
@@ -62,3 +63,24 @@ taken home away i j k = busy home away i k || busy home away j k
 -- how many games of the sheet have no slot
 abbrev pub unplaced : List ℕ → ℕ → ℕ
 unplaced sheet G = sumTo (λ g. only (eqb (getD sheet g 0) 0) 1) G
+
+-- a table with slot k in word q, and without it
+abbrev pub joinedAt : List ℕ → ℕ → ℕ → List ℕ
+joinedAt l q k = set l q (joined (getD l q 0) k)
+
+abbrev pub withoutAt : List ℕ → ℕ → ℕ → List ℕ
+withoutAt l q k = set l q (without (getD l q 0) k)
+
+-- the same by a byte of the sheet, of which 0 is no slot
+abbrev pub putIn : List ℕ → ℕ → ℕ → List ℕ
+putIn l q zero = l
+putIn l q (suc k) = joinedAt l q k
+
+abbrev pub takenOut : List ℕ → ℕ → ℕ → List ℕ
+takenOut l q zero = l
+takenOut l q (suc k) = withoutAt l q k
+
+-- the slot of byte b is free for i and j
+abbrev pub freeAt : List ℕ → List ℕ → ℕ → ℕ → ℕ → Bool
+freeAt home away i j zero = true
+freeAt home away i j (suc k) = not (taken home away i j k)
