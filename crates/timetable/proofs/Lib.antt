@@ -4,3 +4,4 @@ pub mod Sheet
 pub mod Clash
 pub mod Games
 pub mod Laws
+pub mod Steps

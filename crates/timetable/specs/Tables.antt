@@ -84,3 +84,16 @@ takenOut l q (suc k) = withoutAt l q k
 abbrev pub freeAt : List ℕ → List ℕ → ℕ → ℕ → ℕ → Bool
 freeAt home away i j zero = true
 freeAt home away i j (suc k) = not (taken home away i j k)
+
+-- What a try to put game (i, j) into the slot of byte b answers and leaves: all three tables with it, or none.
+pub record Tried (r : Bool) (i j b : ℕ) (home away meets home′ away′ meets′ : List ℕ) : Type 0 where
+  pub answer : r ≡ freeAt home away i j b
+  pub home-is : home′ ≡ cond r (putIn home i b) home
+  pub away-is : away′ ≡ cond r (putIn away j b) away
+  pub meets-is : meets′ ≡ cond r (putIn meets (cell i j) b) meets
+
+-- The tables after game (i, j) was taken out of the slot of byte b.
+pub record Lifted (i j b : ℕ) (home away meets home′ away′ meets′ : List ℕ) : Type 0 where
+  pub home-is : home′ ≡ takenOut home i b
+  pub away-is : away′ ≡ takenOut away j b
+  pub meets-is : meets′ ≡ takenOut meets (cell i j) b
