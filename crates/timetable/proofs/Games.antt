@@ -23,7 +23,6 @@ Game homes aways sheet k t =
 
 module _ (n : ℕ) (home away meets homes aways sheet : List ℕ) (range : InRange n homes aways sheet)
     (shows : Shows n home away meets homes aways sheet) (k : ℕ) (lk : k < 64) where
-
   -- a placed game
   module _ (g : ℕ) (low : g < length homes) (placed : getD sheet g 0 ≡ suc k) where
     i : ℕ
@@ -36,24 +35,24 @@ module _ (n : ℕ) (home away meets homes aways sheet : List ℕ) (range : InRan
     unfolding meetings isAt i j
     met =
         let here : only (isAt homes aways sheet i j k g) 1 ≡ 1 =
-            rw (placed, eq-eqb i i refl, eq-eqb j j refl, eq-eqb (suc k) (suc k) refl) in
+        rw (placed, eq-eqb i i refl, eq-eqb j j refl, eq-eqb (suc k) (suc k) refl) in
         omega (arith, term-le-sum (λ h. only (isAt homes aways sheet i j k h) 1) g (length homes) low)
 
     pub game-meets : bit (getD meets (cell (getD homes g 0) (getD aways g 0)) 0) k ≡ 1
     unfolding i j
-    game-meets = omega (arith, met, shows .x i j k (range .home-below g low) (range .away-below g low) lk, bit-lt (getD meets (cell i j) 0) k)
+    game-meets = omega (arith, met, shows .x i j k (range .teams .home-below g low) (range .teams .away-below g low) lk, bit-lt (getD meets (cell i j) 0) k)
 
     pub game-home : bit (getD home (getD homes g 0) 0) k ≡ 1
     unfolding i j
     game-home =
         omega
-        (arith, game-meets, shows .tied .home-row i k (range .home-below g low) lk, term-le-sum (λ q. xOf meets i q k) j n (range .away-below g low), bit-lt (getD home i 0) k)
+        (arith, game-meets, shows .tied .home-row i k (range .teams .home-below g low) lk, term-le-sum (λ q. xOf meets i q k) j n (range .teams .away-below g low), bit-lt (getD home i 0) k)
 
     pub game-away : bit (getD away (getD aways g 0) 0) k ≡ 1
     unfolding i j
     game-away =
         omega
-        (arith, game-meets, shows .tied .away-row j k (range .away-below g low) lk, term-le-sum (λ p. xOf meets p j k) i n (range .home-below g low), bit-lt (getD away j 0) k)
+        (arith, game-meets, shows .tied .away-row j k (range .teams .away-below g low) lk, term-le-sum (λ p. xOf meets p j k) i n (range .teams .home-below g low), bit-lt (getD away j 0) k)
 
     pub game-busy : (t : ℕ) → plays homes aways t g ≡ true → busy home away t k ≡ true
     game-busy t p = go (or-yes (eqb t (getD homes g 0)) _ p)

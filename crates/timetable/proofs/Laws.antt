@@ -31,12 +31,8 @@ pub in-range-set : (n : ℕ) (homes aways sheet : List ℕ) (g b : ℕ)
     → InRange n homes aways sheet
     → InRange n homes aways (set sheet g b)
 in-range-set n homes aways sheet g b lb range = record {
-  few = range .few;
-  aways-length = range .aways-length;
+  teams = range .teams;
   sheet-length = length-set sheet g b ∙ range .sheet-length;
-  home-below = range .home-below;
-  away-below = range .away-below;
-  differ = range .differ;
   slot-low = λ h lh. go h lh (ℕ-discrete h g);
 }
   where
@@ -70,23 +66,23 @@ module _ (n : ℕ) (home away meets homes aways sheet : List ℕ) (range : InRan
 
   li : i < n
   unfolding i
-  li = range .home-below g low
+  li = range .teams .home-below g low
 
   lj : j < n
   unfolding j
-  lj = range .away-below g low
+  lj = range .teams .away-below g low
 
   sized : Sized home away meets
   sized = shows .tied .sized
 
   in-home : i < length home
-  in-home = omega (arith, li, range .few, sized .home-length)
+  in-home = omega (arith, li, range .teams .few, sized .home-length)
 
   in-away : j < length away
-  in-away = omega (arith, lj, range .few, sized .away-length)
+  in-away = omega (arith, lj, range .teams .few, sized .away-length)
 
   in-meets : cell i j < length meets
-  in-meets = omega (arith, li, lj, range .few, sized .meets-length)
+  in-meets = omega (arith, li, lj, range .teams .few, sized .meets-length)
 
   -- words written, none added
   sized-set : (u v w : ℕ) → Sized (set home i u) (set away j v) (set meets (cell i j) w)
@@ -103,7 +99,7 @@ module _ (n : ℕ) (home away meets homes aways sheet : List ℕ) (range : InRan
       let lk : k < 64 = omega (arith, range .slot-low g low) in
       let back : set (set sheet g 0) g (suc k) ≡ sheet = set-set sheet g 0 (suc k) ∙ ap (set sheet g) (sym placed) ∙ set-getD sheet g 0 in
       let slot : getD (set sheet g 0) g 0 ≡ 0 = getD-set-same sheet g 0 0 (omega (arith, range .sheet-length)) in
-      shows-less n i j k (withoutAt home i k) (withoutAt away j k) (withoutAt meets (cell i j) k) home away meets (range .few) li lj
+      shows-less n i j k (withoutAt home i k) (withoutAt away j k) (withoutAt meets (cell i j) k) home away meets (range .teams .few) li lj
       (set-loses home i k in-home _ (without-less (getD home i 0) k (game-home n home away meets homes aways sheet range shows k lk g low placed)))
       (set-loses away j k in-away _ (without-less (getD away j 0) k (game-away n home away meets homes aways sheet range shows k lk g low placed)))
       (set-loses meets (cell i j) k in-meets _ (without-less (getD meets (cell i j) 0) k (game-meets n home away meets homes aways sheet range shows k lk g low placed)))
@@ -124,14 +120,14 @@ module _ (n : ℕ) (home away meets homes aways sheet : List ℕ) (range : InRan
         let at-home = out-bit (getD home i 0) k (host .0) in
         let at-away = out-bit (getD away j 0) k (guest .1) in
         let not-met : xOf meets i j k ≡ 0 = omega (arith, at-home, shows .tied .home-row i k li lk, term-le-sum (λ q. xOf meets i q k) j n lj) in
-        shows-more n i j k home away meets (joinedAt home i k) (joinedAt away j k) (joinedAt meets (cell i j) k) (range .few) li lj
+        shows-more n i j k home away meets (joinedAt home i k) (joinedAt away j k) (joinedAt meets (cell i j) k) (range .teams .few) li lj
         (set-gains home i k in-home _ (joined-more (getD home i 0) k at-home))
         (set-gains away j k in-away _ (joined-more (getD away j 0) k at-away))
         (set-gains meets (cell i j) k in-meets _ (joined-more (getD meets (cell i j) 0) k not-met))
         homes aways sheet (set sheet g (suc k))
         (meetings-more n homes aways sheet g k (range .sheet-length) low lifted)
         (sized-set _ _ _)
-        (range .differ g low)
+        (range .teams .differ g low)
         (omega (arith, at-home, out-bit (getD away i 0) k (host .1)))
         (omega (arith, at-away, out-bit (getD home j 0) k (guest .0)))
         shows
@@ -177,9 +173,9 @@ module _ (n : ℕ) (home away meets homes aways sheet : List ℕ) (range : InRan
           where
             side : (busy home away (getD homes g 0) k ≡ true) ⊎ (busy home away (getD aways g 0) k ≡ true)
                 → clash homes aways (set sheet g (suc k)) ≡ true
-            side (inl b) = busy-clash (getD homes g 0) (range .home-below g low) (rw (eq-eqb (getD homes g 0) (getD homes g 0) refl)) b
+            side (inl b) = busy-clash (getD homes g 0) (range .teams .home-below g low) (rw (eq-eqb (getD homes g 0) (getD homes g 0) refl)) b
             side (inr b) =
-                busy-clash (getD aways g 0) (range .away-below g low) (rw (eq-eqb (getD aways g 0) (getD aways g 0) refl, or-true)) b
+                busy-clash (getD aways g 0) (range .teams .away-below g low) (rw (eq-eqb (getD aways g 0) (getD aways g 0) refl, or-true)) b
 
         -- game a is g, and b clashes with it
         with-g : (a b t l : ℕ)

@@ -5,3 +5,4 @@ pub mod Clash
 pub mod Games
 pub mod Laws
 pub mod Steps
+pub mod FirstGames

@@ -5,7 +5,7 @@ use mathlib.Core.List.{List}
 use mathlib.Core.Bool.{Bool, true, false, _||_, not, cond}
 use Prim.Native.Nat.{ℕ, zero, suc, _+_, _*_, _<_, _≤_}
 use lib.Dec.{eqb}
-use lib.ListN.{length, getD, set}
+use lib.ListN.{length, getD, set, replicate}
 use Rattle.robinx.specs.Sums.{sumTo, only}
 use Rattle.robinx.specs.Groups.{bit, has}
 use Rattle.robinx.specs.Timetable.{X, meetings, clash}
@@ -37,20 +37,29 @@ pub record Shows (n : ℕ) (home away meets homes aways sheet : List ℕ) : Type
   pub tied : Tied n home away meets
   pub x : (i j k : ℕ) → i < n → j < n → k < 64 → xOf meets i j k ≡ meetings homes aways sheet i j k
 
--- What a season and its sheet are held to before a table is made of them.
-pub record InRange (n : ℕ) (homes aways sheet : List ℕ) : Type 0 where
+-- What a season's games and its sheet are held to before a table is made of them.
+pub record Teams (n : ℕ) (homes aways : List ℕ) : Type 0 where
   pub few : n ≤ 32
   pub aways-length : length aways ≡ length homes
-  pub sheet-length : length sheet ≡ length homes
   pub home-below : (g : ℕ) → g < length homes → getD homes g 0 < n
   pub away-below : (g : ℕ) → g < length homes → getD aways g 0 < n
   pub differ : (g : ℕ) → g < length homes → getD homes g 0 ≡ getD aways g 0 → ⊥
+
+pub record InRange (n : ℕ) (homes aways sheet : List ℕ) : Type 0 where
+  pub teams : Teams n homes aways
+  pub sheet-length : length sheet ≡ length homes
   pub slot-low : (g : ℕ) → g < length homes → getD sheet g 0 ≤ 64
 
 -- The answer `ok` is right, and with it the tables: no team has two games in a slot, or the tables are no matter.
 pub record Fits (n : ℕ) (ok : Bool) (home away meets homes aways sheet : List ℕ) : Type 0 where
   pub no-clash : ok ≡ not (clash homes aways sheet)
   pub shows : ok ≡ true → Shows n home away meets homes aways sheet
+
+-- no game is placed
+pub record Empty (home away meets : List ℕ) : Type 0 where
+  pub home-is : home ≡ replicate 32 0
+  pub away-is : away ≡ replicate 32 0
+  pub meets-is : meets ≡ replicate 1024 0
 
 -- t has a game in slot k
 abbrev pub busy : List ℕ → List ℕ → ℕ → ℕ → Bool
