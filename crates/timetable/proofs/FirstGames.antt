@@ -1,0 +1,125 @@
+-- The sheet whose games from g on have no slot yet, which is what the tables show before turn g of build. Assumes nothing.
+use mathlib.Core.Path.{_≡_, refl, sym, ap, _∙_}
+use mathlib.Core.List.{List}
+use mathlib.Core.Bool.{Bool, true, false, _&&_, not, and-false}
+use Prim.Native.Nat.{ℕ, zero, suc, _+_, _*_, _<_, _≤_}
+use native.Mathlib.Omega.{arith}
+use native.Mathlib.Numerals.{add-one}
+use native.Mathlib.Decide.{ℕ-discrete}
+use lib.Dec.{eqb, eqb·zero-suc}
+use lib.ListN.{length, getD, set, replicate, length-set, length-replicate}
+use lib.Seq.{getD-set-same, getD-set-other, ext-getD}
+use Rattle.robinx.specs.Sums.{sumTo, only}
+use Rattle.robinx.specs.Groups.{bit}
+use Rattle.robinx.specs.Timetable.{isAt, meetings, clash}
+use Rattle.robinx.proofs.Sums.{never, only-le, sum-zero, sum-step, sum-bound}
+use Rattle.masks.proofs.Bits.{none-bit}
+use Rattle.timetable.specs.Tables.{cell, xOf, Sized, Tied, Shows, InRange, Fits, Empty, Tried, unplaced}
+use Rattle.timetable.proofs.Clash.{clash-is}
+use Rattle.timetable.proofs.Laws.{in-range-set}
+use Rattle.timetable.proofs.Steps.{fits-tried}
+
+unfoldable pub placedTo : List ℕ → ℕ → List ℕ
+placedTo sheet zero = replicate (length sheet) 0
+placedTo sheet (suc g) = set (placedTo sheet g) g (getD sheet g 0)
+
+none-at : (n q : ℕ) → getD {A = ℕ} (replicate n 0) q 0 ≡ 0
+none-at zero q = refl
+none-at (suc n) zero = refl
+none-at (suc n) (suc q) = none-at n q
+
+none-bit-at : (n : ℕ) (l : List ℕ) (q k : ℕ) → l ≡ replicate n 0 → bit (getD l q 0) k ≡ 0
+none-bit-at n l q k e = ap (λ (z : List ℕ). bit (getD z q 0) k) e ∙ ap (λ (w : ℕ). bit w k) (none-at n q) ∙ none-bit k
+
+module _ (sheet : List ℕ) where
+  placed-length : (g : ℕ) → length (placedTo sheet g) ≡ length sheet
+  unfolding placedTo
+  placed-length zero = length-replicate (length sheet) 0
+  placed-length (suc g) = length-set (placedTo sheet g) g (getD sheet g 0) ∙ placed-length g
+
+  -- the games from g on
+  pub later : (g h : ℕ) → g ≤ h → getD (placedTo sheet g) h 0 ≡ 0
+  unfolding placedTo
+  later zero h l = none-at (length sheet) h
+  later (suc g) h l = getD-set-other (placedTo sheet g) g h (getD sheet g 0) 0 (λ e. omega arith) ∙ later g h (omega arith)
+
+  -- .. and those before
+  earlier : (g h : ℕ) → g ≤ length sheet → h < g → getD (placedTo sheet g) h 0 ≡ getD sheet h 0
+  unfolding placedTo
+  earlier zero h low l = absurd (omega arith)
+  earlier (suc g) h low l = go (ℕ-discrete h g) (earlier g h (omega arith))
+    where
+      go : Dec (h ≡ g) → (h < g → getD (placedTo sheet g) h 0 ≡ getD sheet h 0) → getD (set (placedTo sheet g) g (getD sheet g 0)) h 0 ≡ getD sheet h 0
+      go (yes e) ih = rw (e, getD-set-same (placedTo sheet g) g (getD sheet g 0) 0 (omega (arith, placed-length g)))
+      go (no e) ih = getD-set-other (placedTo sheet g) g h (getD sheet g 0) 0 e ∙ ih (omega arith)
+
+  pub all-placed : placedTo sheet (length sheet) ≡ sheet
+  all-placed =
+      ext-getD 0 (placedTo sheet (length sheet)) sheet (placed-length (length sheet))
+      (λ h l. earlier (length sheet) h (omega arith) (omega (arith, placed-length (length sheet))))
+
+module _ (n : ℕ) (homes aways sheet : List ℕ) (range : InRange n homes aways sheet) where
+  in-range-placed : (g : ℕ) → g ≤ length homes → InRange n homes aways (placedTo sheet g)
+  unfolding placedTo
+  in-range-placed zero l = record {
+    teams = range .teams;
+    sheet-length = length-replicate (length sheet) 0 ∙ range .sheet-length;
+    slot-low = λ g lg. omega (arith, none-at (length sheet) g);
+  }
+  in-range-placed (suc g) l =
+      in-range-set n homes aways (placedTo sheet g) g (getD sheet g 0) (range .slot-low g (omega arith)) (in-range-placed g (omega arith))
+
+  -- before the first turn
+  pub fits-none : (home away meets : List ℕ) → Empty home away meets → Fits n true home away meets homes aways (placedTo sheet 0)
+  unfolding meetings isAt
+  fits-none home away meets empty = record {
+    no-clash = sym (ap not (never _ (λ e. let c = clash-is homes aways (placedTo sheet 0) e in omega (arith, later sheet 0 c.g (omega arith), c.g-slot))));
+    shows = λ e. record {
+      tied = record {
+        sized = record {
+          home-length = ap length (empty .home-is) ∙ length-replicate {A = ℕ} 32 0;
+          away-length = ap length (empty .away-is) ∙ length-replicate {A = ℕ} 32 0;
+          meets-length = ap length (empty .meets-is) ∙ length-replicate {A = ℕ} 1024 0;
+        };
+        home-row = λ t k lt lk. at-home t k ∙ sym (sum-zero n (λ j lj. no-meeting t j k));
+        away-row = λ t k lt lk. at-away t k ∙ sym (sum-zero n (λ i li. no-meeting i t k));
+        once = λ t k lt lk. omega (arith, at-home t k, at-away t k);
+      };
+      x = λ i j k li lj lk. no-meeting i j k ∙ sym (none-met i j k);
+    };
+  }
+    where
+      at-home : (t k : ℕ) → bit (getD home t 0) k ≡ 0
+      at-home t k = none-bit-at 32 home t k (empty .home-is)
+
+      at-away : (t k : ℕ) → bit (getD away t 0) k ≡ 0
+      at-away t k = none-bit-at 32 away t k (empty .away-is)
+
+      no-meeting : (i j k : ℕ) → xOf meets i j k ≡ 0
+      no-meeting i j k = none-bit-at 1024 meets (cell i j) k (empty .meets-is)
+
+      none-met : (i j k : ℕ) → meetings homes aways (placedTo sheet 0) i j k ≡ 0
+      none-met i j k = sum-zero (length homes) (λ g lg. rw (later sheet 0 g (omega arith), eqb·zero-suc k, and-false))
+
+  -- turn g
+  pub fits-next : (g : ℕ) → g < length homes → {ok r s : Bool} {home away meets home′ away′ meets′ : List ℕ}
+      → Fits n ok home away meets homes aways (placedTo sheet g)
+      → Tried r (getD homes g 0) (getD aways g 0) (getD sheet g 0) home away meets home′ away′ meets′
+      → s ≡ ok && r
+      → Fits n s home′ away′ meets′ homes aways (placedTo sheet (g + 1))
+  unfolding placedTo
+  fits-next g low {ok} {r} fits tried e =
+      rw (e, add-one)
+      (fits-tried n homes aways (placedTo sheet g) (in-range-placed g (omega arith)) g low ok r (getD sheet g 0) (range .slot-low g low)
+      (later sheet g g (omega arith)) fits tried)
+
+-- how many of the first games have no slot
+module _ (sheet : List ℕ) where
+  pub unplaced-next : (g : ℕ) {u v : ℕ}
+      → u ≡ unplaced sheet g
+      → v ≡ only (eqb (getD sheet g 0) 0) 1
+      → u + v ≡ unplaced sheet (g + 1)
+  unplaced-next g p q = rw (sum-step, ← p, ← q)
+
+  pub unplaced-low : (g : ℕ) → unplaced sheet g ≤ g
+  unplaced-low g = omega (arith, sum-bound {f = λ h. only (eqb (getD sheet h 0) 0) 1} g 1 (λ h l. only-le (eqb (getD sheet h 0) 0) 1))

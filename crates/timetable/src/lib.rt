@@ -1,0 +1,257 @@
+// The three tables of a sheet: which slots a team plays at home, which away, and in which one team hosts another. A game is put into
+// all three or into none.
+ghost use mathlib.Core.Path.{_≡_};
+ghost use mathlib.Core.List.{List};
+ghost use mathlib.Core.Bool.{Bool, true, _&&_, _||_, not};
+ghost use Prim.Native.Nat.{ℕ, suc, _+_, _<_, _≤_};
+ghost use lib.Dec.{eqb};
+ghost use lib.ListN.{length, set, getD};
+ghost use Rattle.robinx.specs.Sums.{only};
+ghost use Rattle.timetable.specs.Tables.{cell, busy, joinedAt, withoutAt, Teams, InRange, Fits, unplaced, Empty, Tried, Lifted};
+
+fn either(a: bool, b: bool) -> bool
+    ensures { λ r. ⌜ r ≡ a || b ⌝ }
+{
+    if a { true } else { b }
+}
+
+fn both(a: bool, b: bool) -> bool
+    ensures { λ r. ⌜ r ≡ a && b ⌝ }
+{
+    if a { b } else { false }
+}
+
+// Team t has a game in slot k.
+fn busy(home: &[u64; 32], away: &[u64; 32], t: usize, k: u64) -> bool
+    requires { ⌜ (t < 32) × (k < 64) ⌝ }
+    ensures { λ r. ⌜ r ≡ busy (now (home .entry)) (now (away .entry)) t k ⌝ }
+{
+    either(masks::is_in(home[t], k), masks::is_in(away[t], k))
+}
+
+// Slot k of a team, set and cleared.
+fn join_row(row: &mut [u64; 32], t: usize, k: u64)
+    requires { ⌜ (t < 32) × (k < 64) ⌝ }
+    ensures { λ _. ⌜ now (row .exit) ≡ joinedAt (now (row .entry)) t k ⌝ }
+{
+    row[t] = masks::joined(row[t], k);
+}
+
+fn clear_row(row: &mut [u64; 32], t: usize, k: u64)
+    requires { ⌜ (t < 32) × (k < 64) ⌝ }
+    ensures { λ _. ⌜ now (row .exit) ≡ withoutAt (now (row .entry)) t k ⌝ }
+{
+    row[t] = masks::without(row[t], k);
+}
+
+// .. of i hosting j.
+fn join_cell(meets: &mut [u64; 1024], i: usize, j: usize, k: u64)
+    requires { ⌜ (i < 32) × (j < 32) × (k < 64) ⌝ }
+    ensures { λ _. ⌜ now (meets .exit) ≡ joinedAt (now (meets .entry)) (cell i j) k ⌝ }
+{
+    let q = i * 32 + j;
+    meets[q] = masks::joined(meets[q], k);
+}
+
+fn clear_cell(meets: &mut [u64; 1024], i: usize, j: usize, k: u64)
+    requires { ⌜ (i < 32) × (j < 32) × (k < 64) ⌝ }
+    ensures { λ _. ⌜ now (meets .exit) ≡ withoutAt (now (meets .entry)) (cell i j) k ⌝ }
+{
+    let q = i * 32 + j;
+    meets[q] = masks::without(meets[q], k);
+}
+
+// Puts i at home against j into slot k, or says that one of them is busy there and changes nothing.
+pub fn place(
+    home: &mut [u64; 32],
+    away: &mut [u64; 32],
+    meets: &mut [u64; 1024],
+    i: usize,
+    j: usize,
+    k: u64,
+) -> bool
+    requires { ⌜ (i < 32) × (j < 32) × (k < 64) ⌝ }
+    ensures { λ r. ⌜ Tried r i j (suc k) (now (home .entry)) (now (away .entry)) (now (meets .entry))
+        (now (home .exit)) (now (away .exit)) (now (meets .exit)) ⌝ }
+{
+    if either(busy(&*home, &*away, i, k), busy(&*home, &*away, j, k)) {
+        return false;
+    }
+    join_row(home, i, k);
+    join_row(away, j, k);
+    join_cell(meets, i, j, k);
+    true
+}
+
+// Takes i at home against j out of slot k.
+pub fn lift(
+    home: &mut [u64; 32],
+    away: &mut [u64; 32],
+    meets: &mut [u64; 1024],
+    i: usize,
+    j: usize,
+    k: u64,
+)
+    requires { ⌜ (i < 32) × (j < 32) × (k < 64) ⌝ }
+    ensures { λ _. ⌜ Lifted i j (suc k) (now (home .entry)) (now (away .entry)) (now (meets .entry))
+        (now (home .exit)) (now (away .exit)) (now (meets .exit)) ⌝ }
+{
+    clear_row(home, i, k);
+    clear_row(away, j, k);
+    clear_cell(meets, i, j, k);
+}
+
+// The same for game g and the slot of byte b, of which 0 is no slot.
+fn put(
+    homes: &[u8],
+    aways: &[u8],
+    home: &mut [u64; 32],
+    away: &mut [u64; 32],
+    meets: &mut [u64; 1024],
+    g: usize,
+    b: u8,
+) -> bool
+    requires { ⌜ Teams 32 (now homes) (now aways) × (g < length (now homes)) × (b ≤ 64) ⌝ }
+    ensures { λ r. ⌜ Tried r (getD (now (homes .entry)) g 0) (getD (now (aways .entry)) g 0) b
+        (now (home .entry)) (now (away .entry)) (now (meets .entry))
+        (now (home .exit)) (now (away .exit)) (now (meets .exit)) ⌝ }
+{
+    if b == 0 {
+        return true;
+    }
+    place(
+        home,
+        away,
+        meets,
+        homes[g] as usize,
+        aways[g] as usize,
+        (b - 1) as u64,
+    )
+}
+
+fn take_out(
+    homes: &[u8],
+    aways: &[u8],
+    home: &mut [u64; 32],
+    away: &mut [u64; 32],
+    meets: &mut [u64; 1024],
+    g: usize,
+    b: u8,
+)
+    requires { ⌜ Teams 32 (now homes) (now aways) × (g < length (now homes)) × (b ≤ 64) ⌝ }
+    ensures { λ _. ⌜ Lifted (getD (now (homes .entry)) g 0) (getD (now (aways .entry)) g 0) b
+        (now (home .entry)) (now (away .entry)) (now (meets .entry))
+        (now (home .exit)) (now (away .exit)) (now (meets .exit)) ⌝ }
+{
+    if b == 0 {
+        return;
+    }
+    lift(
+        home,
+        away,
+        meets,
+        homes[g] as usize,
+        aways[g] as usize,
+        (b - 1) as u64,
+    );
+}
+
+// 1 for a byte that is no slot.
+fn none(b: u8) -> usize
+    ensures { λ r. ⌜ r ≡ only (eqb b 0) 1 ⌝ }
+{
+    if b == 0 { 1 } else { 0 }
+}
+
+// What is known of a sheet once its tables are built: no team has two games in a slot, and so many games have none.
+pub struct Built {
+    pub fits: bool,
+    pub unplaced: usize,
+}
+
+// Puts every placed game into empty tables; where a team is busy it goes on and remembers.
+pub fn build(
+    homes: &[u8],
+    aways: &[u8],
+    sheet: &[u8],
+    home: &mut [u64; 32],
+    away: &mut [u64; 32],
+    meets: &mut [u64; 1024],
+) -> Built
+    requires { ⌜ InRange 32 (now homes) (now aways) (now sheet) × Empty (now home) (now away) (now meets) ⌝ }
+    ensures { λ r. ⌜ Fits 32 (r .fits) (now (home .exit)) (now (away .exit)) (now (meets .exit))
+        (now (homes .entry)) (now (aways .entry)) (now (sheet .entry))
+        × (r .unplaced ≡ unplaced (now (sheet .entry)) (length (now (homes .entry)))) ⌝ }
+{
+    let mut fits = true;
+    let mut unplaced: usize = 0;
+    let mut g = 0;
+    while g < homes.len() {
+        let b = sheet[g];
+        fits = both(
+            fits,
+            put(homes, aways, &mut *home, &mut *away, &mut *meets, g, b),
+        );
+        unplaced += none(b);
+        g += 1;
+    }
+    Built {
+        fits: fits,
+        unplaced: unplaced,
+    }
+}
+
+// Game g goes from its slot to that of byte b.
+pub fn reslot(
+    homes: &[u8],
+    aways: &[u8],
+    sheet: &[u8],
+    home: &mut [u64; 32],
+    away: &mut [u64; 32],
+    meets: &mut [u64; 1024],
+    g: usize,
+    b: u8,
+) -> bool
+    requires { ⌜ InRange 32 (now homes) (now aways) (now sheet)
+        × Fits 32 true (now home) (now away) (now meets) (now homes) (now aways) (now sheet)
+        × (g < length (now homes)) × (b ≤ 64) ⌝ }
+    ensures { λ r. ⌜ Fits 32 r (now (home .exit)) (now (away .exit)) (now (meets .exit))
+        (now (homes .entry)) (now (aways .entry)) (set (now (sheet .entry)) g b) ⌝ }
+{
+    take_out(
+        homes,
+        aways,
+        &mut *home,
+        &mut *away,
+        &mut *meets,
+        g,
+        sheet[g],
+    );
+    put(homes, aways, home, away, meets, g, b)
+}
+
+// Games g and h exchange their slots.
+pub fn swap(
+    homes: &[u8],
+    aways: &[u8],
+    sheet: &[u8],
+    home: &mut [u64; 32],
+    away: &mut [u64; 32],
+    meets: &mut [u64; 1024],
+    g: usize,
+    h: usize,
+) -> bool
+    requires { ⌜ InRange 32 (now homes) (now aways) (now sheet)
+        × Fits 32 true (now home) (now away) (now meets) (now homes) (now aways) (now sheet)
+        × (g < length (now homes)) × (h < length (now homes)) × (g ≡ h → ⊥) ⌝ }
+    ensures { λ r. ⌜ Fits 32 r (now (home .exit)) (now (away .exit)) (now (meets .exit)) (now (homes .entry)) (now (aways .entry))
+        (set (set (now (sheet .entry)) g (getD (now (sheet .entry)) h 0)) h (getD (now (sheet .entry)) g 0)) ⌝ }
+{
+    let a = sheet[g];
+    let b = sheet[h];
+    take_out(homes, aways, &mut *home, &mut *away, &mut *meets, g, a);
+    take_out(homes, aways, &mut *home, &mut *away, &mut *meets, h, b);
+    let first = put(homes, aways, &mut *home, &mut *away, &mut *meets, g, b);
+    let second = put(homes, aways, home, away, meets, h, a);
+    both(first, second)
+}
