@@ -87,7 +87,7 @@ plausible-errors
     × (deviationsUnder breakAt3 (set sheetA 2 0) 1 ≡ 1 ∷ [])
     -- "any" in CA4 where T1 equals T2: slot 1 has two games, and a game is counted once
     × (deviationsUnder (under 14 3 0 0 0 15 15 1) sheetA 1 ≡ 2 ∷ [])
-    -- FA1 on teams 0 and 1 after slot 2, kmax 0: one home game each way between the two; against all teams they are level
+    -- FA1 on teams 0 and 1 after slot 2, kmax 0: of their one meeting each has one side more; against all teams both are level
     × (deviationsUnder (under 41 1 0 0 0 3 0 2) sheetA 2 ≡ 1 ∷ 1 ∷ [])
 unfolding all
 plausible-errors = (refl, refl, refl, refl, refl)

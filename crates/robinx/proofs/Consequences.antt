@@ -102,7 +102,7 @@ module _ (m : Instance) (sheet ledger tally : List ℕ) (k : Call) (same : moved
       let x = timetable m (moved sheet k) in
       rw (no-change isHard x, no-change isSoft x, hard, soft, ledger-kept (deviationsAt m x), tally-kept (penaltyAt m x), same)
 
--- "Set 0 to 1: accepted, nothing changes", for every game and whatever the books hold
+-- A set to the slot that the game has, whatever the books hold.
 module _ (season sheet ledger tally : List ℕ) (p : Passed season sheet (length ledger) (length tally)) (g : ℕ) (game : g < decode season .G)
     (hard-fits : getD tally (decode season .C) 0 < 2 ^ 64) (soft-fits : getD tally (decode season .C + 1) 0 < 2 ^ 64) where
   abbrev m : Instance

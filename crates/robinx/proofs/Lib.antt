@@ -16,3 +16,4 @@ pub mod Accepted
 pub mod Kept
 pub mod Demand3
 pub mod Consequences
+pub mod Feasible

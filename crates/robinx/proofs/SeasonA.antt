@@ -28,7 +28,7 @@ A =
 abbrev pub sheetA : List ℕ
 sheetA = 1 ∷ 1 ∷ 2 ∷ 2 ∷ 3 ∷ 3 ∷ []
 
--- "ledger 1; 1; six 0; 0 0 1 0"
+-- a stretch a constraint: 1; 1; 0 0 0 0 0 0; 0 0 1 0
 abbrev pub ledgerA : List ℕ
 ledgerA = 1 ∷ 1 ∷ 0 ∷ 0 ∷ 0 ∷ 0 ∷ 0 ∷ 0 ∷ 0 ∷ 0 ∷ 1 ∷ 0 ∷ []
 

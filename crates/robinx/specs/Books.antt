@@ -43,17 +43,17 @@ isSoft c = not (eqb (c .hard) 1)
 unfoldable pub total : (Constraint → Bool) → Instance → X → ℕ
 total want m x = sumTo (λ c. only (want (m .constraint c)) (penaltyAt m x c)) (m .C)
 
--- "constraint by constraint"
+-- the deviations, one constraint after the other
 unfoldable pub freshLedger : Instance → List ℕ → List ℕ
 freshLedger m sheet = catTo (deviationsAt m (timetable m sheet)) (m .C)
 
--- "the penalties, then infeasibility .., then objective"
+-- the penalties, then the two totals
 unfoldable pub freshTally : Instance → List ℕ → List ℕ
 freshTally m sheet =
     listTo (penaltyAt m (timetable m sheet)) (m .C)
     ++ total isHard m (timetable m sheet) ∷ total isSoft m (timetable m sheet) ∷ []
 
--- "1 some game unplaced, else 2 infeasibility above 0, else 0"
+-- 1: a game has no slot; else 2: a hard constraint is broken, as the total has it; else 0, feasible
 unfoldable pub verdict : Instance → List ℕ → ℕ → ℕ
 verdict m sheet infeasibility =
     cond (anyTo (λ g. eqb (getD sheet g 0) 0) (m .G)) 1 (cond (ltb 0 infeasibility) 2 0)

@@ -27,7 +27,7 @@ pub record Outcome : Type 0 where
 abbrev pub outcome : Reply → List ℕ → List ℕ → List ℕ → Outcome
 outcome reply sheet ledger tally = record { reply = reply; sheet = sheet; ledger = ledger; tally = tally }
 
--- "The reply is marked as declined ..; it holds the number with both changes 0"
+-- a refusal: marked as declined, with its number and no change
 abbrev pub declined : ℕ → Reply
 declined number = record { declined = true; number = number; infeasibility = pos 0; objective = pos 0 }
 
@@ -35,12 +35,12 @@ abbrev pub accepted : ℕ → ℤ → ℤ → Reply
 accepted number infeasibility objective =
     record { declined = false; number = number; infeasibility = infeasibility; objective = objective }
 
--- the accepted outcome where no sentence is true; else the refusal, "and the four buffers keep their bytes"
+-- the accepted outcome where no sentence is true; else the refusal, with the buffers as they were
 abbrev pub unlessRefused : ℕ → Outcome → List ℕ → List ℕ → List ℕ → Outcome
 unlessRefused zero done sheet ledger tally = done
 unlessRefused (suc r) done sheet ledger tally = outcome (declined (suc r)) sheet ledger tally
 
--- Open "checks a proposed sheet and fills ledger and tally"; its changes "start from zero".
+-- Open works everything out from the proposed sheet. Its changes are the totals themselves.
 unfoldable pub openFault : List ℕ → List ℕ → List ℕ → List ℕ → ℕ
 openFault season sheet ledger tally =
     firstTrue (ofSeason season ++ ofBuffers (decode season) sheet (length ledger) (length tally))
@@ -60,7 +60,7 @@ unfoldable pub openCall : List ℕ → List ℕ → List ℕ → List ℕ → Ou
 openCall season sheet ledger tally =
     unlessRefused (openFault season sheet ledger tally) (opened (decode season) sheet) sheet ledger tally
 
--- "Set gives game g slot s, where 0 lifts it. Exchange swaps the slots of two placed games."
+-- Set puts a game into a slot, or out of its slot by 0. Exchange gives each of two games the slot of the other.
 pub data Call : Type 0 where
   setSlot exchange : ℕ → ℕ → Call
 
@@ -69,7 +69,7 @@ unfoldable pub moved : List ℕ → Call → List ℕ
 moved sheet (setSlot g s) = set sheet g s
 moved sheet (exchange g h) = set (set sheet g (getD sheet h 0)) h (getD sheet g 0)
 
--- "Set is refused by sentence 9 or 10 .., exchange by 9, 11 or 12, and either of them by 13"
+-- the sentences about the numbers of a call, in checking order
 abbrev pub ofCall : Instance → List ℕ → Call → List Sentence
 ofCall m sheet (setSlot g s) =
     sentence 9 (sentence9 m g)
@@ -87,7 +87,7 @@ ofCall m sheet (exchange g h) =
 abbrev pub touchedBy : Instance → List ℕ → ℕ → ℕ → ℕ → Bool
 touchedBy m sheet g b c = touches (m .constraint c) (getD (m .home) g 0) (getD (m .away) g 0) (getD sheet g 0) b
 
--- "An exchange touches what either of its two changes touches."
+-- an exchange is two changes
 unfoldable pub touched : Instance → List ℕ → Call → ℕ → Bool
 touched m sheet (setSlot g s) c = touchedBy m sheet g s c
 touched m sheet (exchange g h) c = touchedBy m sheet g (getD sheet h 0) c || touchedBy m sheet h (getD sheet g 0) c
@@ -96,15 +96,14 @@ touched m sheet (exchange g h) c = touchedBy m sheet g (getD sheet h 0) c || tou
 unfoldable pub stretchAt : Instance → List ℕ → ℕ → List ℕ
 stretchAt m ledger c = take (entriesAt m c) (drop (startAt m c) ledger)
 
--- "rework all figures of touched constraints, keep the others": t says which are touched
+-- a touched constraint's figures are worked out on the new sheet, any other's are as they were; t says which are touched
 abbrev pub reworkedStretch : Instance → (ℕ → Bool) → X → List ℕ → ℕ → List ℕ
 reworkedStretch m t x ledger c = cond (t c) (deviationsAt m x c) (stretchAt m ledger c)
 
 abbrev pub reworkedPenalty : Instance → (ℕ → Bool) → X → List ℕ → ℕ → ℕ
 reworkedPenalty m t x tally c = cond (t c) (penaltyAt m x c) (getD tally c 0)
 
--- The change of a total: "the sum, over the touched hard constraints, of the new penalty less the one that the tally held", and the
--- same over the soft ones, modulo 2^64.
+-- The change of a total: over the touched constraints that it sums up, their new penalties less the ones that the tally held, modulo 2^64.
 unfoldable pub gained : (Constraint → Bool) → Instance → (ℕ → Bool) → X → ℕ → ℕ
 gained want m t x k = sumTo (λ c. only (t c && want (m .constraint c)) (penaltyAt m x c)) k
 
@@ -114,11 +113,12 @@ lost want m t tally k = sumTo (λ c. only (t c && want (m .constraint c)) (getD 
 unfoldable pub change : (Constraint → Bool) → Instance → (ℕ → Bool) → X → List ℕ → ℕ
 change want m t x tally = (gained want m t x (m .C) + (2 ^ 64 - lost want m t tally (m .C) % 2 ^ 64)) % 2 ^ 64
 
--- "move totals by the change modulo 2^64"
+-- a total moved by its change
 abbrev pub movedTotal : ℕ → ℕ → ℕ
 movedTotal old d = (old + d) % 2 ^ 64
 
--- The outcome of an accepted set or exchange. "such a change is read as two's complement and such a verdict from the moved total"
+-- The outcome of an accepted set or exchange, for any books: the reply reads the changes as two's complement, and the verdict from the
+-- moved total.
 unfoldable pub reworked : Instance → List ℕ → List ℕ → List ℕ → Call → Outcome
 reworked m sheet ledger tally k =
     let after = moved sheet k in

@@ -11,7 +11,7 @@ use Rattle.robinx.specs.Calls.{Outcome, Call, openCall, setCall, exchang
 use Rattle.robinx.specs.PlainSheet.{plainFault, plainNext, plainAfter, changes}
 use Rattle.robinx.specs.declared.Reply.{Reply}
 
--- "Each call gets the same season and the buffers as the call before left them"
+-- the next call gets the same season, and the buffers as o left them
 unfoldable pub next : List ℕ → Outcome → Call → Outcome
 next season o (Call.setSlot g s) = setCall season (o .sheet) (o .ledger) (o .tally) g s
 next season o (Call.exchange g h) = exchangeCall season (o .sheet) (o .ledger) (o .tally) g h
@@ -42,7 +42,7 @@ abbrev pub Answers : ℕ → Reply → ℕ → Type 0
 Answers zero r verdict = (r .declined ≡ false) × (r .number ≡ verdict)
 Answers (suc f) r verdict = (r .declined ≡ true) × (r .number ≡ suc f)
 
--- "No call but open alters a figure of a constraint that its change does not touch": its deviations and its penalty
+-- the figures of a constraint that the change does not touch, its deviations and its penalty, stay
 abbrev pub Keeps : Instance → (ℕ → Bool) → Outcome → Outcome → Type 0
 Keeps m changed o o′ =
     (c : ℕ) → c < m .C → changed c ≡ false
@@ -60,7 +60,7 @@ AllRight season plain o [] = Unit {0}
 AllRight season plain o (k ∷ ks) =
     Right season plain o k (next season o k) × AllRight season (plainNext (decode season) plain k) (next season o k) ks
 
--- "The changes returned, the opening's included, add up to the last totals"
+-- the changes of all replies, the opening's first, add up to the two totals of the last tally
 abbrev pub AddsUp : List ℕ → Outcome → List Call → Type 0
 AddsUp season o ks =
     (added (λ (r : Reply). r .infeasibility) season o ks ≡ pos (getD (last season o ks .tally) (decode season .C) 0))

@@ -26,11 +26,11 @@ over P S f = sumTo (λ k. only (has S k) (f k)) P
 unfoldable pub worst : ℕ → ℕ → (ℕ → ℕ) → ℕ
 worst P S f = maxTo (λ k. only (has S k) (f k)) P
 
--- "A count c outside kmin..kmax deviates by max(kmin − c, c − kmax, 0)"; a difference of numbers is at least 0
+-- how far a count is below kmin or above kmax; a difference of numbers is at least 0
 abbrev pub outside : ℕ → ℕ → ℕ → ℕ
 outside kmin kmax v = max (kmin - v) (v - kmax)
 
--- BR1, BR2: "Modes 1 to 3 deviate by max(c − kmax, 0), modes 4 to 6 by |kmax − c|"
+-- BR1, BR2: in the first modes more than kmax counts, in the others any distance from it
 abbrev pub offTarget : Bool → ℕ → ℕ → ℕ
 offTarget true kmax v = v - kmax
 offTarget false kmax v = dist kmax v

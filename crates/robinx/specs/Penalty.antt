@@ -1,4 +1,4 @@
--- "The penalty is weight times a function of the deviations": RobinX, formulas (1) to (5).
+-- A constraint's penalty: its weight times one of five functions of its deviations (RobinX, formulas (1) to (5)).
 use mathlib.Core.List.{List, [], _∷_}
 use mathlib.Core.Bool.{cond}
 use Prim.Native.Nat.{ℕ, _+_, _*_, max, min}

@@ -8,11 +8,11 @@ use Rattle.robinx.specs.Season.{Instance}
 use Rattle.robinx.specs.Refusals.{firstTrue}
 use Rattle.robinx.specs.Calls.{Call, moved, ofCall, touched}
 
--- "The sentences are read on the plain sheet as it stands before the call, and the first true one gives the number"; 0: accepted
+-- the number with which the plain sheet refuses a call; 0: it accepts
 unfoldable pub plainFault : Instance → List ℕ → Call → ℕ
 plainFault m plain k = firstTrue (ofCall m plain k)
 
--- "An accepted set replaces one number, an accepted exchange two, a refused call none."
+-- a refused call leaves it as it is
 abbrev pub unlessFault : ℕ → List ℕ → List ℕ → List ℕ
 unlessFault zero after plain = after
 unlessFault (suc r) after plain = plain
@@ -25,6 +25,6 @@ unfoldable pub plainAfter : Instance → List ℕ → List Call → List ℕ
 plainAfter m plain [] = plain
 plainAfter m plain (k ∷ ks) = plainAfter m (plainNext m plain k) ks
 
--- a call's change touches constraint c; "a refused call has no change"
+-- a call's change touches constraint c; a refused call has none
 unfoldable pub changes : Instance → List ℕ → Call → ℕ → Bool
 changes m plain k c = eqb (plainFault m plain k) 0 && touched m plain k c

@@ -10,11 +10,11 @@ use Rattle.robinx.specs.Rules.{obeys, fits}
 use Rattle.robinx.specs.Timetable.{clash}
 use Rattle.robinx.specs.Books.{allEntries}
 
--- 1. The season has fewer than 6 bytes.
+-- 1: the sizes are not all there
 unfoldable pub sentence1 : List ℕ → Bool
 sentence1 season = ltb (length season) 6
 
--- 2. A size is outside its range.
+-- 2: a size is too small or too large
 unfoldable pub sentence2 : Instance → Bool
 sentence2 m =
     not
@@ -23,7 +23,7 @@ sentence2 m =
     && leb (m .G) mostGames
     && leb (m .C) mostConstraints)
 
--- 3. The season's length is not 6 + 2·G + 24·C.
+-- 3: the length is not the one that the sizes give
 unfoldable pub sentence3 : List ℕ → Bool
 sentence3 season = not (eqb (length season) (seasonLength season))
 
@@ -36,7 +36,7 @@ isBetween home away i j g =
 unfoldable pub encounters : List ℕ → List ℕ → ℕ → ℕ → ℕ → ℕ
 encounters home away i j k = sumTo (λ g. only (isBetween home away i j g) 1) k
 
--- 4. A game has a team not below n, or one team twice, or a pair meets more than 8 times.
+-- 4: a game names no team of the season, or has no opponent, or is one of more than 8 between its teams
 unfoldable pub badGame : Instance → ℕ → Bool
 badGame m g =
     leb (m .n) (getD (m .home) g 0)
@@ -47,39 +47,39 @@ badGame m g =
 unfoldable pub sentence4 : Instance → Bool
 sentence4 m = anyTo (badGame m) (m .G)
 
--- 5. A constraint breaks a rule above.
+-- 5: a constraint does not keep its rules
 unfoldable pub sentence5 : Instance → Bool
 sentence5 m = anyTo (λ c. not (obeys (m .n) (m .P) (m .constraint c))) (m .C)
 
--- 6. E is above 6000 (the report program only).
+-- 6: too many deviations for the report program; the calls do not look at this
 unfoldable pub sentence6 : Instance → Bool
 sentence6 m = ltb 6000 (allEntries m)
 
--- 7. The sheet, ledger or tally does not have exactly G, E or C + 2 items.
+-- 7: a lent buffer has another length than the season asks for
 unfoldable pub sentence7 : Instance → ℕ → ℕ → ℕ → Bool
 sentence7 m sheet ledger tally = not (eqb sheet (m .G) && eqb ledger (allEntries m) && eqb tally (m .C + 2))
 
--- 8. A sheet byte is above P, or a team has two games in a slot.
+-- 8: the sheet names no slot of the season, or two games of a team share a slot
 unfoldable pub sentence8 : Instance → List ℕ → Bool
 sentence8 m sheet = anyTo (λ g. ltb (m .P) (getD sheet g 0)) (m .G) || clash (m .home) (m .away) sheet
 
--- 9. A game number is not below G.
+-- 9: there is no such game
 unfoldable pub sentence9 : Instance → ℕ → Bool
 sentence9 m g = leb (m .G) g
 
--- 10. The slot is above P (set).
+-- 10: there is no such slot
 unfoldable pub sentence10 : Instance → ℕ → Bool
 sentence10 m s = ltb (m .P) s
 
--- 11. Both games are the same (exchange).
+-- 11: a game cannot be exchanged with itself
 unfoldable pub sentence11 : ℕ → ℕ → Bool
 sentence11 g h = eqb g h
 
--- 12. One of the games is unplaced (exchange).
+-- 12: a game to be exchanged has no slot
 unfoldable pub sentence12 : List ℕ → ℕ → ℕ → Bool
 sentence12 sheet g h = eqb (getD sheet g 0) 0 || eqb (getD sheet h 0) 0
 
--- 13. A team would have two games in one slot: read on the sheet as the call would leave it.
+-- 13: two games of a team would share a slot, on the sheet as the call would leave it
 unfoldable pub sentence13 : Instance → List ℕ → Bool
 sentence13 m after = clash (m .home) (m .away) after
 

@@ -27,9 +27,8 @@ yes = true
 abbrev no : Bool
 no = false
 
--- A row a kind: the largest mode (1 where the kind says "mode 1", 6 where it tells modes 4 to 6, else 3); whether it uses kmin ("in
--- 11 to 21"), kmax ("in all but 51"), w ("in 13 and 51"), T2 ("in 12, 13, 14, 21"), S ("in all but 13 and 51"); its least kmax (32:
--- "kmax above 0"); its fewest teams of T1 ("more than one team", "42 and 51 need two teams"); 12: "T1 or T2 has more than one team".
+-- A row a kind: the largest mode (1 where only mode 1 is named, 6 where modes 4 to 6 have a meaning, else 3); whether it uses kmin, kmax,
+-- w, T2 and S; its least kmax; its fewest teams of T1; whether one of T1 and T2 has to have more than one team.
 unfoldable pub formOf : Kind → Form
 formOf Kind.CA1 = form 3 yes yes no no yes 0 1 no
 formOf Kind.CA2 = form 3 yes yes no yes yes 0 1 yes
@@ -43,7 +42,7 @@ formOf Kind.FA2 = form 3 no yes no no yes 0 2 no
 formOf Kind.SE1 = form 1 no no yes no no 0 2 no
 formOf Kind.unknown = form 0 no no no no no 0 1 no
 
--- a field that is used is in low .. high; "A field not used is 0"
+-- a field that is used is in low .. high, and any other is 0
 abbrev pub fits : Bool → ℕ → ℕ → ℕ → Bool
 fits true low high v = leb low v && leb v high
 fits false low high v = eqb v 0

@@ -1,4 +1,4 @@
--- Which changes touch a constraint (document 01, "A change of game (i, j) from slot a to b, a ≠ b, touches a constraint when").
+-- Which changes touch a constraint (document 01, "Calls and the plain sheet", the paragraph on a change of one game).
 use mathlib.Core.Bool.{Bool, true, false, _&&_, _||_, not}
 use Prim.Native.Nat.{ℕ, zero, suc}
 use lib.Dec.{eqb}
