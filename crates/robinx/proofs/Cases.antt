@@ -6,6 +6,7 @@ use lib.IntN.{ℤ, pos, negsuc}
 use lib.ListN.{replicate, set}
 use Rattle.robinx.specs.Penalty.{combine}
 use Rattle.robinx.specs.Deviations.{tooClose}
+use Rattle.robinx.specs.Report.{reportFault, reportRows}
 use Rattle.robinx.specs.Calls.{Outcome, outcome, accepted, declined, openCall, setCall, exchangeCall}
 use Rattle.robinx.proofs.All.{all}
 use Rattle.robinx.proofs.SeasonA.{head, body, games, A, sheetA, ledgerA, tallyA, under}
@@ -132,3 +133,14 @@ other-slips
 unfolding all
 other-slips =
     (refl, refl, refl, refl, refl, refl, refl, refl, refl, refl, refl, refl, refl, refl, refl, refl, refl, refl, refl, refl)
+
+-- Season A's printout; its input cut short at the season and at the sheet, and too long
+printout
+    : (reportRows (A ++ sheetA) ≡ (2 ∷ 10 ∷ 8 ∷ []) ∷ (0 ∷ 11 ∷ 10 ∷ []) ∷ (1 ∷ 32 ∷ 5 ∷ []) ∷ (3 ∷ 13 ∷ 3 ∷ []) ∷ [])
+    × (reportFault (A ++ sheetA) ≡ 0)
+    × (reportFault [] ≡ 1)
+    × (reportFault (games 4) ≡ 3)
+    × (reportFault A ≡ 7)
+    × (reportFault (A ++ sheetA ++ sheetA) ≡ 7)
+unfolding all
+printout = (refl, refl, refl, refl, refl, refl)

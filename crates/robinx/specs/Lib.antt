@@ -10,5 +10,6 @@ pub mod Rules
 pub mod Books
 pub mod Refusals
 pub mod Calls
+pub mod Report
 pub mod PlainSheet
 pub mod Demand3
