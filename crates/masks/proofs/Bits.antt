@@ -1,4 +1,4 @@
--- Bits of and, or, xor, of a single slot and of shifted numbers, for numbers of any width.
+-- Bits of and, or, xor, of a single slot and of shifted numbers, for numbers of any width. Assumes nothing.
 use mathlib.Core.Path.{_≡_, refl, sym, ap, ap₂, _∙_}
 use mathlib.Core.Bool.{Bool, true, false, _&&_, _||_}
 use Prim.Native.Nat.{ℕ, zero, suc, _+_, _*_, _/_, _%_, _^_, _<_, min, max, compare·suc-suc}

@@ -1,5 +1,6 @@
--- The slots of a side's breaks by one addition. To the complement of all games add the side's games, each one slot later: a slot without
--- a game is a 1 and hands a carry on, a slot with a game is a 0 and keeps it. So the carry into a slot says that the last game was of the side.
+-- The slots of a side's breaks by one addition: the complement of all games plus the side's games, each one slot later. A slot without a
+-- game is a 1 and hands a carry on, a slot with one is a 0 and keeps it: the carry into a slot says that the last game was of the side.
+-- Assumes nothing.
 use mathlib.Core.Path.{_≡_, refl, sym, ap, ap₂, _∙_}
 use mathlib.Core.Bool.{Bool, _&&_, cond}
 use Prim.Native.Nat.{ℕ, zero, suc, _+_, _-_, _*_, _/_, _%_, _^_, _<_, _≤_, min}

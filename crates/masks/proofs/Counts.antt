@@ -1,4 +1,4 @@
--- A count of set bits is a sum over slots.
+-- A count of set bits is a sum over slots. Assumes nothing.
 use mathlib.Core.Path.{_≡_, refl, sym, ap, _∙_}
 use mathlib.Core.Bool.{Bool, true, false, _&&_}
 use Prim.Native.Nat.{ℕ, _^_, _<_}

@@ -1,4 +1,4 @@
--- A mask with a slot, and without it.
+-- A mask with a slot, and without it. Assumes nothing.
 use mathlib.Core.Path.{_≡_, refl, ap, ap₂, _∙_}
 use mathlib.Core.Bool.{Bool, true, false}
 use Prim.Native.Nat.{ℕ, _+_, _^_, _<_, max}

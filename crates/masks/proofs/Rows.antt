@@ -1,4 +1,4 @@
--- Rows laid for masks, and that what is read off them are the definitions.
+-- Rows laid for masks, and that what is read off them are the definitions. Assumes nothing.
 use mathlib.Core.Path.{_≡_, refl, ap, ap₂, _∙_}
 use mathlib.Core.Bool.{Bool, true, false}
 use mathlib.Core.List.{List}

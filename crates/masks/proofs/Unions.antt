@@ -1,4 +1,4 @@
--- Unions of masks. Where no slot is in two of them, a union's bit counts the masks that have the slot.
+-- Unions of masks. Where no slot is in two of them, a union's bit counts the masks that have the slot. Assumes nothing.
 use mathlib.Core.Path.{_≡_, refl, ap, _∙_}
 use mathlib.Core.Bool.{Bool, true, false}
 use Prim.Native.Nat.{ℕ, zero, suc, _+_, _^_, _<_, _≤_, max}

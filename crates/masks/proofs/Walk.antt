@@ -1,4 +1,4 @@
--- Walking the set bits of a mask: the slots passed over change nothing.
+-- Walking the set bits of a mask: the slots passed over change nothing. Assumes nothing.
 use mathlib.Core.Path.{_≡_, refl, sym, ap, _∙_}
 use mathlib.Core.Bool.{Bool, true, false}
 use Prim.Native.Nat.{ℕ, zero, suc, _+_, _-_, _*_, _/_, _%_, _^_, _<_, _≤_}

@@ -1,4 +1,4 @@
--- Sums and largest values whose terms are 0 from P on may stop at P. A mask below 2 ^ P has no slot from P on.
+-- Sums and largest values whose terms are 0 from P on may stop at P. A mask below 2 ^ P has no slot from P on. Assumes nothing.
 use mathlib.Core.Path.{_≡_, refl, sym, ap, _∙_}
 use mathlib.Core.Bool.{Bool, true, false, true≢false}
 use Prim.Native.Nat.{ℕ, zero, suc, _+_, _-_, _%_, _^_, _<_, _≤_}
