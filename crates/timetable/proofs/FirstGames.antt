@@ -15,6 +15,7 @@ use Rattle.robinx.specs.Timetable.{isAt, meetings, clash}
 use Rattle.robinx.proofs.Sums.{never, only-le, sum-zero, sum-step, sum-bound}
 use Rattle.masks.proofs.Bits.{none-bit}
 use Rattle.timetable.specs.Tables.{cell, xOf, Sized, Tied, Shows, InRange, Fits, Empty, Tried, unplaced}
+use Rattle.timetable.proofs.Points.{sum-change}
 use Rattle.timetable.proofs.Clash.{clash-is}
 use Rattle.timetable.proofs.Laws.{in-range-set}
 use Rattle.timetable.proofs.Steps.{fits-tried}
@@ -123,3 +124,18 @@ module _ (sheet : List ℕ) where
 
   pub unplaced-low : (g : ℕ) → unplaced sheet g ≤ g
   unplaced-low g = omega (arith, sum-bound {f = λ h. only (eqb (getD sheet h 0) 0) 1} g 1 (λ h l. only-le (eqb (getD sheet h 0) 0) 1))
+
+  -- .. after game g has got the slot of byte b
+  pub unplaced-set : (g b G : ℕ)
+      → g < G
+      → g < length sheet
+      → unplaced (set sheet g b) G + only (eqb (getD sheet g 0) 0) 1 ≡ unplaced sheet G + only (eqb b 0) 1
+  unplaced-set g b G low fits =
+      sum-change
+      {f = λ h. only (eqb (getD sheet h 0) 0) 1}
+      {h = λ h. only (eqb (getD (set sheet g b) h 0) 0) 1}
+      G
+      g
+      low
+      (λ h l e. rw (getD-set-other sheet g h b 0 e))
+      ∙ rw (getD-set-same sheet g b 0 fits)
