@@ -1,18 +1,16 @@
 -- Tables for all 32 teams are tables for the n teams of a season: no game has another team. Assumes nothing.
-use mathlib.Core.Path.{_≡_, refl, sym, ap, _∙_}
+use mathlib.Core.Path.{_≡_, sym, ap, _∙_}
 use mathlib.Core.List.{List}
-use mathlib.Core.Bool.{Bool, true, false, _&&_, and-false}
+use mathlib.Core.Bool.{and-false}
 use Prim.Native.Nat.{ℕ, zero, suc, _+_, _<_, _≤_}
 use native.Mathlib.Omega.{arith}
 use native.Mathlib.Decide.{ℕ-discrete}
-use lib.Dec.{eqb}
-use lib.ListN.{length, getD, set}
-use lib.Seq.{getD-set-same, getD-set-other}
+use lib.ListN.{length, getD}
 use borrow.Author.Tests.{ne-eqb}
-use Rattle.robinx.specs.Sums.{sumTo, only}
+use Rattle.robinx.specs.Sums.{sumTo}
 use Rattle.robinx.specs.Timetable.{isAt, meetings}
 use Rattle.robinx.proofs.Sums.{sum-zero}
-use Rattle.timetable.specs.Tables.{xOf, Tied, Shows, Teams, InRange}
+use Rattle.timetable.specs.Tables.{xOf, Shows, InRange}
 
 pub in-range-32 : {n : ℕ} {homes aways sheet : List ℕ} → InRange n homes aways sheet → InRange 32 homes aways sheet
 in-range-32 range = record {

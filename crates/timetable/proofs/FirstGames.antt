@@ -1,20 +1,20 @@
 -- The sheet whose games from g on have no slot yet, which is what the tables show before turn g of build. Assumes nothing.
 use mathlib.Core.Path.{_≡_, refl, sym, ap, _∙_}
 use mathlib.Core.List.{List}
-use mathlib.Core.Bool.{Bool, true, false, _&&_, not, and-false}
-use Prim.Native.Nat.{ℕ, zero, suc, _+_, _*_, _<_, _≤_}
+use mathlib.Core.Bool.{Bool, true, _&&_, not, and-false}
+use Prim.Native.Nat.{ℕ, zero, suc, _+_, _<_, _≤_}
 use native.Mathlib.Omega.{arith}
 use native.Mathlib.Numerals.{add-one}
 use native.Mathlib.Decide.{ℕ-discrete}
 use lib.Dec.{eqb, eqb·zero-suc}
 use lib.ListN.{length, getD, set, replicate, length-set, length-replicate}
 use lib.Seq.{getD-set-same, getD-set-other, ext-getD}
-use Rattle.robinx.specs.Sums.{sumTo, only}
+use Rattle.robinx.specs.Sums.{only}
 use Rattle.robinx.specs.Groups.{bit}
-use Rattle.robinx.specs.Timetable.{isAt, meetings, clash}
+use Rattle.robinx.specs.Timetable.{isAt, meetings}
 use Rattle.robinx.proofs.Sums.{never, only-le, sum-zero, sum-step, sum-bound}
 use Rattle.masks.proofs.Bits.{none-bit}
-use Rattle.timetable.specs.Tables.{cell, xOf, Sized, Tied, Shows, InRange, Fits, Empty, Tried, unplaced}
+use Rattle.timetable.specs.Tables.{cell, xOf, InRange, Fits, Empty, Tried, unplaced}
 use Rattle.timetable.proofs.Points.{sum-change}
 use Rattle.timetable.proofs.Clash.{clash-is}
 use Rattle.timetable.proofs.Laws.{in-range-set}
@@ -74,7 +74,7 @@ module _ (n : ℕ) (homes aways sheet : List ℕ) (range : InRange n homes aways
   pub fits-none : (home away meets : List ℕ) → Empty home away meets → Fits n true home away meets homes aways (placedTo sheet 0)
   unfolding meetings isAt
   fits-none home away meets empty = record {
-    no-clash = sym (ap not (never _ (λ e. let c = clash-is homes aways (placedTo sheet 0) e in omega (arith, later sheet 0 c.g (omega arith), c.g-slot))));
+    no-clash = sym (ap not (never _ (λ e. let c = clash-is homes aways (placedTo sheet 0) e in omega (arith, later sheet 0 c.g (omega arith), c.first .slot))));
     shows = λ e. record {
       tied = record {
         sized = record {
