@@ -1,20 +1,21 @@
 -- The sheet whose games from g on have no slot yet, which is what the tables show before turn g of build. Assumes nothing.
 use mathlib.Core.Path.{_≡_, refl, sym, ap, _∙_}
 use mathlib.Core.List.{List}
-use mathlib.Core.Bool.{Bool, true, false, _&&_, not, and-false}
-use Prim.Native.Nat.{ℕ, zero, suc, _+_, _*_, _<_, _≤_}
+use mathlib.Core.Bool.{Bool, true, _&&_, not, and-false}
+use Prim.Native.Nat.{ℕ, zero, suc, _+_, _<_, _≤_}
 use native.Mathlib.Omega.{arith}
 use native.Mathlib.Numerals.{add-one}
 use native.Mathlib.Decide.{ℕ-discrete}
 use lib.Dec.{eqb, eqb·zero-suc}
 use lib.ListN.{length, getD, set, replicate, length-set, length-replicate}
 use lib.Seq.{getD-set-same, getD-set-other, ext-getD}
-use Rattle.robinx.specs.Sums.{sumTo, only}
+use Rattle.robinx.specs.Sums.{only}
 use Rattle.robinx.specs.Groups.{bit}
-use Rattle.robinx.specs.Timetable.{isAt, meetings, clash}
+use Rattle.robinx.specs.Timetable.{isAt, meetings}
 use Rattle.robinx.proofs.Sums.{never, only-le, sum-zero, sum-step, sum-bound}
 use Rattle.masks.proofs.Bits.{none-bit}
-use Rattle.timetable.specs.Tables.{cell, xOf, Sized, Tied, Shows, InRange, Fits, Empty, Tried, unplaced}
+use Rattle.timetable.specs.Tables.{cell, xOf, InRange, Fits, Empty, Tried, unplaced}
+use Rattle.timetable.proofs.Points.{sum-change}
 use Rattle.timetable.proofs.Clash.{clash-is}
 use Rattle.timetable.proofs.Laws.{in-range-set}
 use Rattle.timetable.proofs.Steps.{fits-tried}
@@ -73,7 +74,7 @@ module _ (n : ℕ) (homes aways sheet : List ℕ) (range : InRange n homes aways
   pub fits-none : (home away meets : List ℕ) → Empty home away meets → Fits n true home away meets homes aways (placedTo sheet 0)
   unfolding meetings isAt
   fits-none home away meets empty = record {
-    no-clash = sym (ap not (never _ (λ e. let c = clash-is homes aways (placedTo sheet 0) e in omega (arith, later sheet 0 c.g (omega arith), c.g-slot))));
+    no-clash = sym (ap not (never _ (λ e. let c = clash-is homes aways (placedTo sheet 0) e in omega (arith, later sheet 0 c.g (omega arith), c.first .slot))));
     shows = λ e. record {
       tied = record {
         sized = record {
@@ -123,3 +124,18 @@ module _ (sheet : List ℕ) where
 
   pub unplaced-low : (g : ℕ) → unplaced sheet g ≤ g
   unplaced-low g = omega (arith, sum-bound {f = λ h. only (eqb (getD sheet h 0) 0) 1} g 1 (λ h l. only-le (eqb (getD sheet h 0) 0) 1))
+
+  -- .. after game g has got the slot of byte b
+  pub unplaced-set : (g b G : ℕ)
+      → g < G
+      → g < length sheet
+      → unplaced (set sheet g b) G + only (eqb (getD sheet g 0) 0) 1 ≡ unplaced sheet G + only (eqb b 0) 1
+  unplaced-set g b G low fits =
+      sum-change
+      {f = λ h. only (eqb (getD sheet h 0) 0) 1}
+      {h = λ h. only (eqb (getD (set sheet g b) h 0) 0) 1}
+      G
+      g
+      low
+      (λ h l e. rw (getD-set-other sheet g h b 0 e))
+      ∙ rw (getD-set-same sheet g b 0 fits)

@@ -6,3 +6,4 @@ pub mod Games
 pub mod Laws
 pub mod Steps
 pub mod FirstGames
+pub mod Fewer

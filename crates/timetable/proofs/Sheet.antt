@@ -1,13 +1,13 @@
 -- A sheet on which one game gets a slot: one meeting more. Assumes nothing.
-use mathlib.Core.Path.{_≡_, refl, sym, ap, _∙_}
+use mathlib.Core.Path.{_≡_}
 use mathlib.Core.List.{List}
-use mathlib.Core.Bool.{Bool, true, false, _&&_, and-false}
-use Prim.Native.Nat.{ℕ, zero, suc, _+_, _<_}
+use mathlib.Core.Bool.{_&&_, and-false}
+use Prim.Native.Nat.{ℕ, suc, _<_}
 use native.Mathlib.Omega.{arith}
 use lib.Dec.{eqb, eqb·zero-suc, eqb·suc-suc}
 use lib.ListN.{length, getD, set}
 use lib.Seq.{getD-set-same, getD-set-other}
-use Rattle.robinx.specs.Sums.{sumTo, only}
+use Rattle.robinx.specs.Sums.{only}
 use Rattle.robinx.specs.Timetable.{isAt, meetings}
 use Rattle.timetable.proofs.Points.{sum-change}
 use Rattle.timetable.proofs.Tied.{MeetsMore}

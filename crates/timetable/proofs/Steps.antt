@@ -1,14 +1,14 @@
 -- The steps of build, reslot and swap: what the tables and the answer were for one sheet they are for the next. Assumes nothing.
 use mathlib.Core.Path.{_≡_, refl, sym, ap, _∙_}
 use mathlib.Core.List.{List}
-use mathlib.Core.Bool.{Bool, true, false, _&&_, not, cond, true≢false}
+use mathlib.Core.Bool.{Bool, true, false, _&&_, not, true≢false}
 use Prim.Native.Nat.{ℕ, zero, suc, _<_, _≤_}
 use native.Mathlib.Omega.{arith}
 use lib.ListN.{length, getD, set}
 use lib.Seq.{getD-set-same, getD-set-other, set-set, set-comm, set-getD}
 use borrow.Author.Tests.{not-true, not-false}
 use Rattle.robinx.specs.Timetable.{clash}
-use Rattle.timetable.specs.Tables.{cell, Shows, InRange, Fits, taken, putIn, takenOut, freeAt, Tried, Lifted}
+use Rattle.timetable.specs.Tables.{cell, Shows, InRange, Fits, putIn, takenOut, freeAt, Tried, Lifted}
 use Rattle.timetable.proofs.Laws.{in-range-set, lift-law, place-law, busy-is-clash, clash-lift, clash-stays}
 
 module _ (n : ℕ) (homes aways sheet : List ℕ) (range : InRange n homes aways sheet) (g : ℕ) (low : g < length homes)

@@ -1,11 +1,11 @@
 -- The tables with one game more and with one game less: rows and meetings stay tied. Assumes nothing.
-use mathlib.Core.Path.{_≡_, refl, sym, ap, ap₂, _∙_}
+use mathlib.Core.Path.{_≡_, refl, sym, ap, _∙_}
 use mathlib.Core.List.{List}
-use mathlib.Core.Bool.{Bool, true, false, _&&_, and-assoc, and-true, and-false}
-use Prim.Native.Nat.{ℕ, zero, suc, _+_, _*_, _<_, _≤_}
+use mathlib.Core.Bool.{Bool, true, false, _&&_, and-assoc}
+use Prim.Native.Nat.{ℕ, _+_, _<_, _≤_}
 use native.Mathlib.Omega.{arith}
 use lib.Dec.{eqb}
-use lib.ListN.{length, getD, set}
+use lib.ListN.{getD}
 use borrow.Author.Tests.{eqb-true, eqb-false, eq-eqb, ne-eqb}
 use Rattle.robinx.specs.Sums.{sumTo, only}
 use Rattle.robinx.specs.Groups.{bit}
@@ -15,7 +15,7 @@ use Rattle.robinx.proofs.Ext.{sum-ext}
 use Rattle.timetable.specs.Tables.{cell, xOf, Sized, Tied, Shows}
 use Rattle.timetable.proofs.Points.{Gains, sum-point}
 
--- x' is x with one more meeting of i and j at i's venue in slot k
+-- x′ is x with one more meeting of i and j at i's venue in slot k
 abbrev pub MeetsMore : ℕ → ℕ → ℕ → ℕ → X → X → Type 0
 MeetsMore n i j k x x′ =
     (p q a : ℕ) → p < n → q < n → x′ p q a ≡ x p q a + only (eqb i p && eqb j q && eqb k a) 1
@@ -58,6 +58,15 @@ module _ (n i j k : ℕ) (h a m h′ a′ m′ : List ℕ) (few : n ≤ 32) (li 
   x-more : MeetsMore n i j k (xOf m) (xOf m′)
   x-more = gains-meets n i j k m m′ few lj meets-gains
 
+  -- rows grow as their sums do
+  home-row-more : (t b : ℕ) → t < n
+      → bit (getD h′ t 0) b + sumTo (λ q. xOf m t q b) n ≡ bit (getD h t 0) b + sumTo (λ q. xOf m′ t q b) n
+  home-row-more t b lt = omega (arith, home-gains t b, row-more n i j k (xOf m) (xOf m′) li lj x-more t b lt)
+
+  away-row-more : (t b : ℕ) → t < n
+      → bit (getD a′ t 0) b + sumTo (λ p. xOf m p t b) n ≡ bit (getD a t 0) b + sumTo (λ p. xOf m′ p t b) n
+  away-row-more t b lt = omega (arith, away-gains t b, column-more n i j k (xOf m) (xOf m′) li lj x-more t b lt)
+
   tied-more : Sized h′ a′ m′
       → (i ≡ j → ⊥)
       → bit (getD h i 0) k + bit (getD a i 0) k ≡ 0
@@ -66,14 +75,18 @@ module _ (n i j k : ℕ) (h a m h′ a′ m′ : List ℕ) (few : n ≤ 32) (li 
       → Tied n h′ a′ m′
   tied-more sized differ free-i free-j tied = record {
     sized = sized;
-    home-row = λ t b lt lb.
-        omega (arith, home-gains t b, tied .home-row t b lt lb, row-more n i j k (xOf m) (xOf m′) li lj x-more t b lt);
-    away-row = λ t b lt lb.
-        omega (arith, away-gains t b, tied .away-row t b lt lb, column-more n i j k (xOf m) (xOf m′) li lj x-more t b lt);
-    once = λ t b lt lb. rw (home-gains t b, away-gains t b) (go t b (tied .once t b lt lb) (eqb i t) (eqb j t) (eqb k b) refl refl refl);
+    home-row = λ t b lt lb. omega (arith, home-row-more t b lt, tied .home-row t b lt lb);
+    away-row = λ t b lt lb. omega (arith, away-row-more t b lt, tied .away-row t b lt lb);
+    once = λ t b lt lb.
+        rw (home-gains t b, away-gains t b) (go t b (tied .once t b lt lb) (eqb i t) (eqb j t) (eqb k b) refl refl refl);
   }
     where
-      go : (t b : ℕ) → bit (getD h t 0) b + bit (getD a t 0) b ≤ 1 → (p q r : Bool) → eqb i t ≡ p → eqb j t ≡ q → eqb k b ≡ r
+      go : (t b : ℕ)
+          → bit (getD h t 0) b + bit (getD a t 0) b ≤ 1
+          → (p q r : Bool)
+          → eqb i t ≡ p
+          → eqb j t ≡ q
+          → eqb k b ≡ r
           → (bit (getD h t 0) b + only (p && r) 1) + (bit (getD a t 0) b + only (q && r) 1) ≤ 1
       go t b old true true r e f d = absurd (differ (eqb-true i t e ∙ sym (eqb-true j t f)))
       go t b old true false true e f d = rw (← eqb-true i t e, ← eqb-true k b d) (omega arith)
@@ -85,10 +98,8 @@ module _ (n i j k : ℕ) (h a m h′ a′ m′ : List ℕ) (few : n ≤ 32) (li 
   tied-less : Sized h a m → Tied n h′ a′ m′ → Tied n h a m
   tied-less sized tied = record {
     sized = sized;
-    home-row = λ t b lt lb.
-        omega (arith, home-gains t b, tied .home-row t b lt lb, row-more n i j k (xOf m) (xOf m′) li lj x-more t b lt);
-    away-row = λ t b lt lb.
-        omega (arith, away-gains t b, tied .away-row t b lt lb, column-more n i j k (xOf m) (xOf m′) li lj x-more t b lt);
+    home-row = λ t b lt lb. omega (arith, home-row-more t b lt, tied .home-row t b lt lb);
+    away-row = λ t b lt lb. omega (arith, away-row-more t b lt, tied .away-row t b lt lb);
     once = λ t b lt lb. omega (arith, home-gains t b, away-gains t b, tied .once t b lt lb);
   }
 
@@ -103,7 +114,7 @@ module _ (n i j k : ℕ) (h a m h′ a′ m′ : List ℕ) (few : n ≤ 32) (li 
         → Shows n h′ a′ m′ homes aways sheet′
     shows-more sized differ free-i free-j shows = record {
       tied = tied-more sized differ free-i free-j (shows .tied);
-      x = λ p q b lp lq lb. x-more p q b lp lq ∙ ap (λ (v : ℕ). v + only (eqb i p && eqb j q && eqb k b) 1) (shows .x p q b lp lq lb) ∙ sym (more p q b lp lq);
+      x = λ p q b lp lq lb. omega (arith, x-more p q b lp lq, shows .x p q b lp lq lb, more p q b lp lq);
     }
 
     pub shows-less : Sized h a m → Shows n h′ a′ m′ homes aways sheet′ → Shows n h a m homes aways sheet

@@ -157,7 +157,7 @@ fn take_out(
 }
 
 // 1 for a byte that is no slot.
-fn none(b: u8) -> usize
+fn no_slot(b: u8) -> usize
     ensures { λ r. ⌜ r ≡ only (eqb b 0) 1 ⌝ }
 {
     if b == 0 { 1 } else { 0 }
@@ -188,11 +188,9 @@ pub fn build(
     let mut g = 0;
     while g < homes.len() {
         let b = sheet[g];
-        fits = both(
-            fits,
-            put(homes, aways, &mut *home, &mut *away, &mut *meets, g, b),
-        );
-        unplaced += none(b);
+        let fit = put(homes, aways, &mut *home, &mut *away, &mut *meets, g, b);
+        fits = both(fits, fit);
+        unplaced += no_slot(b);
         g += 1;
     }
     Built {

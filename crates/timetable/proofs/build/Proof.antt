@@ -1,3 +1,4 @@
+-- Before turn g the tables are those of the sheet whose games from g on have no slot, and the count is of the games before g. Assumes nothing.
 use denote.Ref.{now}
 use mathlib.Core.Path.{_≡_, refl}
 use Prim.Native.Nat.{_+_, _-_, _≤_}
@@ -9,11 +10,6 @@ use Rattle.timetable.specs.Tables.{Fits, unplaced}
 use Rattle.timetable.proofs.FirstGames.{placedTo, all-placed, fits-none, fits-next, unplaced-next, unplaced-low}
 use Rattle.timetable.proofs.build.Statement.{statement}
 use Rattle.timetable.proofs.build.Tie as tie
-use Rattle.timetable.proofs.build.Reads as reads
-use Rattle.timetable.proofs.build.Lts as lts
-use Rattle.timetable.proofs.both.Reads as both-reads
-use Rattle.timetable.proofs.none.Reads as none-reads
-use Rattle.timetable.proofs.put.Reads as put-reads
 
 abbrev Inv-loop : tie.InvT-loop
 Inv-loop homes aways sheet home₀ away₀ meets₀ fits₀ unplaced₀ g₀ home away meets fits u g =
@@ -22,7 +18,6 @@ Inv-loop homes aways sheet home₀ away₀ meets₀ fits₀ unplaced₀ g₀ hom
 abbrev μ-loop : tie.MeasureT-loop
 μ-loop homes aways sheet home₀ away₀ meets₀ fits₀ unplaced₀ g₀ home away meets fits unplaced g = length homes - g
 
--- src/lib.rt:189:5
 loop-holds : tie.Need-loop-holds Inv-loop μ-loop
 unfolding sumTo
 loop-holds c =
@@ -30,41 +25,33 @@ loop-holds c =
     let pre = c .before .before .before .pre in
     (search needs, fits-none 32 (now (a .homes)) (now (a .aways)) (now (a .sheet)) (pre .0) _ _ _ (pre .1), refl)
 
--- src/lib.rt:190:17
 shared-slice-read-b : tie.Need-shared-slice-read-b Inv-loop μ-loop
 shared-slice-read-b c = omega (arith, c .before .before .before .before .before .before .pre .0 .sheet-length)
 
--- src/lib.rt:191:27
 put-requires : tie.Need-put-requires Inv-loop μ-loop
 put-requires c κs =
     let range = c .before .before .before .before .before .before .before .before .before .pre .0 in
     let low = c .before .before .before .before .loop-test .taken in
     (range .teams, low, range .slot-low _ low)
 
--- src/lib.rt:191:9
 both-requires : tie.Need-both-requires Inv-loop μ-loop
 both-requires c κs = search needs
 
--- src/lib.rt:192:21
-none-requires : tie.Need-none-requires Inv-loop μ-loop
-none-requires c κs = search needs
+no-slot-requires : tie.Need-no-slot-requires Inv-loop μ-loop
+no-slot-requires c κs = search needs
 
--- src/lib.rt:192:9
 add-unplaced : tie.Need-add-unplaced Inv-loop μ-loop
 add-unplaced c =
     let l = c .before .before .before .before .before .before .before .before .loop in
     let s = now (c .before .before .before .before .before .before .before .before .before .before .before .before .args .sheet) in
-    omega (arith, unplaced-next s (l .g) (l .inv .2) (c .none .ensures), unplaced-low s (l .g + 1))
+    omega (arith, unplaced-next s (l .g) (l .inv .2) (c .no-slot .ensures), unplaced-low s (l .g + 1))
 
--- src/lib.rt:193:9
 add-g : tie.Need-add-g Inv-loop μ-loop
 add-g c = search needs
 
--- src/lib.rt:189:5
 loop-less : tie.Need-loop-less Inv-loop μ-loop
 loop-less c = search needs
 
--- src/lib.rt:189:5
 loop-again : tie.Need-loop-again Inv-loop μ-loop
 loop-again c =
     let l = c .before .before .before .before .before .before .before .before .loop in
@@ -72,10 +59,9 @@ loop-again c =
     let low = c .before .before .before .before .before .before .before .loop-test .taken in (
       search needs,
       fits-next 32 _ _ _ range (l .g) low (l .inv .1) (c .before .before .put .ensures) (c .before .both .ensures),
-      unplaced-next (now (c .before .before .before .before .before .before .before .before .before .before .before .before .args .sheet)) (l .g) (l .inv .2) (c .none .ensures),
+      unplaced-next (now (c .before .before .before .before .before .before .before .before .before .before .before .before .args .sheet)) (l .g) (l .inv .2) (c .no-slot .ensures),
     )
 
--- src/lib.rt:173:1
 returns : tie.Need-returns Inv-loop μ-loop
 returns c =
     let l = c .before .loop in
@@ -94,7 +80,7 @@ build-spec =
     shared-slice-read-b
     put-requires
     both-requires
-    none-requires
+    no-slot-requires
     add-unplaced
     add-g
     loop-less

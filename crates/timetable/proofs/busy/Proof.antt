@@ -1,42 +1,31 @@
+-- A team is busy in a slot when its home or its away mask has it. Assumes nothing.
 use mathlib.Core.Path.{ap₂, _∙_}
 use mathlib.Core.Bool.{_||_}
 use borrow.Author.Needs.{needs}
 use Rattle.timetable.proofs.busy.Statement.{statement}
 use Rattle.timetable.proofs.busy.Tie as tie
-use Rattle.timetable.proofs.busy.Reads as reads
-use Rattle.timetable.proofs.busy.Lts as lts
-use Rattle.masks.proofs.is_in.Reads as is-in-reads
-use Rattle.timetable.proofs.either.Reads as either-reads
 
--- src/lib.rt:27:25
 mul-is-in : tie.Need-mul-is-in
 mul-is-in c = search needs
 
--- src/lib.rt:27:25
 element-copy-out-is-in : tie.Need-element-copy-out-is-in
 element-copy-out-is-in c = search needs
 
--- src/lib.rt:27:12
 is-in-requires : tie.Need-is-in-requires
 is-in-requires c κs = search needs
 
--- src/lib.rt:27:51
 mul-is-in-2 : tie.Need-mul-is-in-2
 mul-is-in-2 c = search needs
 
--- src/lib.rt:27:51
 element-copy-out-is-in-2 : tie.Need-element-copy-out-is-in-2
 element-copy-out-is-in-2 c = search needs
 
--- src/lib.rt:27:38
 is-in-requires-2 : tie.Need-is-in-requires-2
 is-in-requires-2 c κs = search needs
 
--- src/lib.rt:27:5
 either-requires : tie.Need-either-requires
 either-requires c κs = search needs
 
--- src/lib.rt:23:1
 returns : tie.Need-returns
 returns c = c .either .ensures ∙ ap₂ _||_ (c .before .before .before .is-in .ensures) (c .before .is-in2 .ensures)
 

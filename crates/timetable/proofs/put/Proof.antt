@@ -1,46 +1,35 @@
+-- Byte 0 is no slot and always fits; any other is one more than its slot. Assumes nothing.
 use mathlib.Core.Path.{_≡_}
 use Prim.Native.Nat.{suc, _-_}
 use native.Mathlib.Omega.{arith}
 use borrow.Author.Needs.{needs}
 use Rattle.timetable.proofs.put.Statement.{statement}
 use Rattle.timetable.proofs.put.Tie as tie
-use Rattle.timetable.proofs.put.Reads as reads
-use Rattle.timetable.proofs.put.Lts as lts
-use Rattle.timetable.proofs.place.Reads as place-reads
 
--- src/lib.rt:120:9
 returns : tie.Need-returns
 returns c = search needs
 
--- src/lib.rt:126:9
 shared-slice-read-place : tie.Need-shared-slice-read-place
 shared-slice-read-place c = search needs
 
--- src/lib.rt:126:9
 cast-place : tie.Need-cast-place
 cast-place c = let pre = c .before .before .before .before .before .before .before .pre in omega (arith, pre .0 .home-below _ (pre .1))
 
--- src/lib.rt:127:9
 shared-slice-read-place-2 : tie.Need-shared-slice-read-place-2
 shared-slice-read-place-2 c = search needs
 
--- src/lib.rt:127:9
 cast-place-2 : tie.Need-cast-place-2
 cast-place-2 c = let pre = c .before .before .before .before .before .before .before .before .pre in omega (arith, pre .0 .away-below _ (pre .1))
 
--- src/lib.rt:128:10
 sub-place : tie.Need-sub-place
 sub-place c = search needs
 
--- src/lib.rt:128:9
 cast-place-3 : tie.Need-cast-place-3
 cast-place-3 c = search needs
 
--- src/lib.rt:122:5
 place-requires : tie.Need-place-requires
 place-requires c κs = let pre = c .before .before .before .before .before .before .before .before .pre in (pre .0 .home-below _ (pre .1), pre .0 .away-below _ (pre .1), search needs)
 
--- src/lib.rt:105:1
 returns-2 : tie.Need-returns-2
 returns-2 c = let e : suc (c .before .before .before .before .before .before .before .before .before .args .b - 1) ≡ c .before .before .before .before .before .before .before .before .before .args .b = omega arith in rw e at (c .place .ensures)
 

@@ -1,46 +1,35 @@
+-- Byte 0 is no slot and changes nothing; any other is one more than its slot. Assumes nothing.
 use mathlib.Core.Path.{_≡_}
 use Prim.Native.Nat.{suc, _-_}
 use native.Mathlib.Omega.{arith}
 use borrow.Author.Needs.{needs}
 use Rattle.timetable.proofs.take_out.Statement.{statement}
 use Rattle.timetable.proofs.take_out.Tie as tie
-use Rattle.timetable.proofs.take_out.Reads as reads
-use Rattle.timetable.proofs.take_out.Lts as lts
-use Rattle.timetable.proofs.lift.Reads as lift-reads
 
--- src/lib.rt:147:9
 returns : tie.Need-returns
 returns c = search needs
 
--- src/lib.rt:153:9
 shared-slice-read-lift : tie.Need-shared-slice-read-lift
 shared-slice-read-lift c = search needs
 
--- src/lib.rt:153:9
 cast-lift : tie.Need-cast-lift
 cast-lift c = let pre = c .before .before .before .before .before .before .before .pre in omega (arith, pre .0 .home-below _ (pre .1))
 
--- src/lib.rt:154:9
 shared-slice-read-lift-2 : tie.Need-shared-slice-read-lift-2
 shared-slice-read-lift-2 c = search needs
 
--- src/lib.rt:154:9
 cast-lift-2 : tie.Need-cast-lift-2
 cast-lift-2 c = let pre = c .before .before .before .before .before .before .before .before .pre in omega (arith, pre .0 .away-below _ (pre .1))
 
--- src/lib.rt:155:10
 sub-lift : tie.Need-sub-lift
 sub-lift c = search needs
 
--- src/lib.rt:155:9
 cast-lift-3 : tie.Need-cast-lift-3
 cast-lift-3 c = search needs
 
--- src/lib.rt:149:5
 lift-requires : tie.Need-lift-requires
 lift-requires c κs = let pre = c .before .before .before .before .before .before .before .before .pre in (pre .0 .home-below _ (pre .1), pre .0 .away-below _ (pre .1), search needs)
 
--- src/lib.rt:132:1
 returns-2 : tie.Need-returns-2
 returns-2 c = let e : suc (c .before .before .before .before .before .before .before .before .before .args .b - 1) ≡ c .before .before .before .before .before .before .before .before .before .args .b = omega arith in rw e at (c .lift .ensures)
 

@@ -1,0 +1,66 @@
+-- Tables for all 32 teams are tables for the n teams of a season: no game has another team. Assumes nothing.
+use mathlib.Core.Path.{_≡_, sym, ap, _∙_}
+use mathlib.Core.List.{List}
+use mathlib.Core.Bool.{and-false}
+use Prim.Native.Nat.{ℕ, zero, suc, _+_, _<_, _≤_}
+use native.Mathlib.Omega.{arith}
+use native.Mathlib.Decide.{ℕ-discrete}
+use lib.ListN.{length, getD}
+use borrow.Author.Tests.{ne-eqb}
+use Rattle.robinx.specs.Sums.{sumTo}
+use Rattle.robinx.specs.Timetable.{isAt, meetings}
+use Rattle.robinx.proofs.Sums.{sum-zero}
+use Rattle.timetable.specs.Tables.{xOf, Shows, InRange}
+
+pub in-range-32 : {n : ℕ} {homes aways sheet : List ℕ} → InRange n homes aways sheet → InRange 32 homes aways sheet
+in-range-32 range = record {
+  teams = record {
+    few = omega arith;
+    aways-length = range .teams .aways-length;
+    home-below = λ g low. omega (arith, range .teams .home-below g low, range .teams .few);
+    away-below = λ g low. omega (arith, range .teams .away-below g low, range .teams .few);
+    differ = range .teams .differ;
+  };
+  sheet-length = range .sheet-length;
+  slot-low = range .slot-low;
+}
+
+-- terms from n on that are 0
+sum-fewer : (f : ℕ → ℕ) (n m : ℕ) → n ≤ m → ((k : ℕ) → n ≤ k → k < m → f k ≡ 0) → sumTo f m ≡ sumTo f n
+unfolding sumTo
+sum-fewer f n zero l none = let e : n ≡ 0 = omega arith in sym (ap (sumTo f) e)
+sum-fewer f n (suc m) l none = go (ℕ-discrete n (suc m)) (λ p. sum-fewer f n m p (λ k lk uk. none k lk (omega arith)))
+  where
+    go : Dec (n ≡ suc m) → (n ≤ m → sumTo f m ≡ sumTo f n) → sumTo f m + f m ≡ sumTo f n
+    go (yes e) ih = ap (sumTo f) (sym e)
+    go (no e) ih = omega (arith, ih (omega arith), none m (omega arith) (omega arith))
+
+module _ (n : ℕ) (homes aways sheet : List ℕ) (range : InRange n homes aways sheet) where
+  -- a team that the season does not have meets nobody
+  no-guest : (i j k : ℕ) → n ≤ j → meetings homes aways sheet i j k ≡ 0
+  unfolding meetings isAt
+  no-guest i j k l =
+      sum-zero (length homes) (λ g low. rw (ne-eqb (getD aways g 0) j (λ e. omega (arith, range .teams .away-below g low)), and-false))
+
+  no-host : (i j k : ℕ) → n ≤ i → meetings homes aways sheet i j k ≡ 0
+  unfolding meetings isAt
+  no-host i j k l =
+      sum-zero (length homes) (λ g low. rw (ne-eqb (getD homes g 0) i (λ e. omega (arith, range .teams .home-below g low))))
+
+  pub shows-for : {home away meets : List ℕ} → Shows 32 home away meets homes aways sheet → Shows n home away meets homes aways sheet
+  shows-for {meets = meets} shows = record {
+    tied = record {
+      sized = shows .tied .sized;
+      home-row = λ t k lt lk.
+          shows .tied .home-row t k (all t lt) lk
+          ∙ sum-fewer (λ j. xOf meets t j k) n 32 (range .teams .few) (λ j lj uj. shows .x t j k (all t lt) uj lk ∙ no-guest t j k lj);
+      away-row = λ t k lt lk.
+          shows .tied .away-row t k (all t lt) lk
+          ∙ sum-fewer (λ i. xOf meets i t k) n 32 (range .teams .few) (λ i li ui. shows .x i t k ui (all t lt) lk ∙ no-host i t k li);
+      once = λ t k lt lk. shows .tied .once t k (all t lt) lk;
+    };
+    x = λ i j k li lj lk. shows .x i j k (all i li) (all j lj) lk;
+  }
+    where
+      all : (t : ℕ) → t < n → t < 32
+      all t l = omega (arith, range .teams .few)
