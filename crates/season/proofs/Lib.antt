@@ -2,3 +2,4 @@ pub mod Numbers
 pub mod Read
 pub mod Unknown
 pub mod Members
+pub mod Meetings

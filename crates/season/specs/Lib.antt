@@ -1,2 +1,3 @@
 pub mod Sizes
 pub mod Counted
+pub mod Meetings
