@@ -3,3 +3,5 @@ pub mod Read
 pub mod Unknown
 pub mod Members
 pub mod Meetings
+pub mod Pass
+pub mod Found

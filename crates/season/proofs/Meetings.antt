@@ -92,7 +92,7 @@ few-more : (b : Bool) (v : ℕ) → v ≤ 8 → (b ≡ true → v < 8) → v + o
 few-more true v p q = omega (arith, q refl)
 few-more false v p q = omega arith
 
-module _ (n : ℕ) (small : n ≤ 32) (home away counts : List ℕ) (g : ℕ) (old : Counted n home away counts g) where
+module _ {n : ℕ} (small : n ≤ 32) {home away counts : List ℕ} {g : ℕ} (old : Counted n home away counts g) where
   abbrev h : ℕ
   h = getD home g 0
 
@@ -143,9 +143,9 @@ module _ (n : ℕ) (small : n ≤ 32) (home away counts : List ℕ) (g : ℕ) (o
       bad true q e = refl
       bad false q e = lt-ltb 8 _ (ninth (teams-fit h a n q) (leb-true 8 _ e))
 
-pub counted-good : (n : ℕ) → n ≤ 32 → (home away counts : List ℕ) → Counted n home away counts (length home) → sentence4 (ofGames n home away) ≡ false
+pub counted-good : {n : ℕ} → n ≤ 32 → {home away counts : List ℕ} → Counted n home away counts (length home) → sentence4 (ofGames n home away) ≡ false
 unfolding sentence4 badGame
-counted-good n small home away counts all =
+counted-good {n} small {home} {away} all =
     none-any (badGame (ofGames n home away)) (length home) (λ k l.
     let f = all .fit k l in
     rw (

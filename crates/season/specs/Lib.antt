@@ -1,3 +1,4 @@
 pub mod Sizes
 pub mod Counted
 pub mod Meetings
+pub mod Examination

@@ -34,7 +34,7 @@ game-bad-requires : tie.Need-game-bad-requires Inv-loop μ-loop
 game-bad-requires c κs = search needs
 
 returns : tie.Need-returns Inv-loop μ-loop
-returns c = sym (counted-bad (c .before .before .before .before .before .before .before .before .before .before .before .args .n) (c .before .before .before .before .before .before .before .before .before .before .before .pre .1) (now (c .before .before .before .before .before .before .before .before .before .before .before .args .homes)) (now (c .before .before .before .before .before .before .before .before .before .before .before .args .aways)) (c .before .before .before .before .before .before .before .before .loop .counts) (c .before .before .before .before .before .before .before .before .loop .g) (c .before .before .before .before .before .before .before .before .loop .inv .0) (c .before .before .before .before .before .before .before .loop-test .taken) (rw (← c .before .before .before .before .wide .ensures .0, ← c .before .before .wide2 .ensures .0) (sym (c .before .game-bad .ensures .0) ∙ c .if1 .taken)))
+returns c = sym (counted-bad (c .before .before .before .before .before .before .before .before .before .before .before .pre .1) (c .before .before .before .before .before .before .before .before .loop .inv .0) (c .before .before .before .before .before .before .before .loop-test .taken) (rw (← c .before .before .before .before .wide .ensures .0, ← c .before .before .wide2 .ensures .0) (sym (c .before .game-bad .ensures .0) ∙ c .if1 .taken)))
 
 add-g : tie.Need-add-g Inv-loop μ-loop
 add-g c = search needs
@@ -43,10 +43,10 @@ loop-less : tie.Need-loop-less Inv-loop μ-loop
 loop-less c = search needs
 
 loop-again : tie.Need-loop-again Inv-loop μ-loop
-loop-again c = (rw (c .before .game-bad .ensures .1 (c .if1 .left), c .before .before .before .before .wide .ensures .0, c .before .before .wide2 .ensures .0) (counted-more (c .before .before .before .before .before .before .before .before .before .before .before .args .n) (c .before .before .before .before .before .before .before .before .before .before .before .pre .1) (now (c .before .before .before .before .before .before .before .before .before .before .before .args .homes)) (now (c .before .before .before .before .before .before .before .before .before .before .before .args .aways)) (c .before .before .before .before .before .before .before .before .loop .counts) (c .before .before .before .before .before .before .before .before .loop .g) (c .before .before .before .before .before .before .before .before .loop .inv .0) (rw (← c .before .before .before .before .wide .ensures .0, ← c .before .before .wide2 .ensures .0) (sym (c .before .game-bad .ensures .0) ∙ c .if1 .left))), omega arith)
+loop-again c = (rw (c .before .game-bad .ensures .1 (c .if1 .left), c .before .before .before .before .wide .ensures .0, c .before .before .wide2 .ensures .0) (counted-more (c .before .before .before .before .before .before .before .before .before .before .before .pre .1) (c .before .before .before .before .before .before .before .before .loop .inv .0) (rw (← c .before .before .before .before .wide .ensures .0, ← c .before .before .wide2 .ensures .0) (sym (c .before .game-bad .ensures .0) ∙ c .if1 .left))), omega arith)
 
 returns-2 : tie.Need-returns-2 Inv-loop μ-loop
-returns-2 c = let e : c .before .loop .g ≡ length (now (c .before .before .before .before .args .homes)) = omega arith in sym (counted-good (c .before .before .before .before .args .n) (c .before .before .before .before .pre .1) _ _ _ (rw e at (c .before .loop .inv .0)))
+returns-2 c = let e : c .before .loop .g ≡ length (now (c .before .before .before .before .args .homes)) = omega arith in sym (counted-good (c .before .before .before .before .pre .1) (rw e at (c .before .loop .inv .0)))
 
 pub games-bad-spec : {M : Type 1} → statement M
 games-bad-spec =

@@ -1,7 +1,8 @@
 -- The away teams are the games' bytes after the home teams.
-use Rattle.robinx.specs.Season.{awayTeams}
+use Rattle.robinx.specs.Season.{awayTeams, decode}
 use native.Mathlib.Nat.{add-sub-cancel-left}
 use Rattle.season.proofs.Read.{games-read}
+use denote.Ref.{now}
 use borrow.Author.Needs.{needs}
 use Rattle.season.proofs.reader.aways.Statement.{statement}
 use Rattle.season.proofs.reader.aways.Tie as tie
@@ -22,8 +23,8 @@ part-result-end : tie.Need-part-result-end
 part-result-end c = search needs
 
 returns : tie.Need-returns
-unfolding awayTeams
-returns c = rw (← games-read (c .before .before .before .pre), add-sub-cancel-left)
+unfolding awayTeams decode
+returns c = rw (← games-read (now (c .before .before .before .args .season)) (c .before .before .before .pre .sizes), add-sub-cancel-left)
 
 pub aways-spec : {M : Type 1} → statement M
 aways-spec =

@@ -1,6 +1,7 @@
 -- Heads and bodies stand in two arrays behind the games.
 use Rattle.robinx.specs.Season.{decode}
 use Rattle.season.proofs.Read.{games-read, constraints-read}
+use denote.Ref.{now}
 use borrow.Author.Needs.{needs}
 use Rattle.season.proofs.reader.constraint_at.Statement.{statement}
 use Rattle.season.proofs.reader.constraint_at.Tie as tie
@@ -34,7 +35,7 @@ constraint-from-requires c κs = search needs
 
 returns : tie.Need-returns
 unfolding decode
-returns c = rw (← games-read (c .before .before .before .before .pre .0), ← constraints-read (c .before .before .before .before .pre .0)) (c .constraint-from .ensures)
+returns c = rw (← games-read (now (c .before .before .before .before .args .season)) (c .before .before .before .before .pre .0 .sizes), ← constraints-read (now (c .before .before .before .before .args .season)) (c .before .before .before .before .pre .0 .sizes)) (c .constraint-from .ensures)
 
 pub constraint-at-spec : {M : Type 1} → statement M
 constraint-at-spec =
