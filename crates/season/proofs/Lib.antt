@@ -1,0 +1,7 @@
+pub mod Numbers
+pub mod Read
+pub mod Unknown
+pub mod Members
+pub mod Meetings
+pub mod Pass
+pub mod Found

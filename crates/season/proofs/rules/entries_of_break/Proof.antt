@@ -1,0 +1,26 @@
+-- The numbers of deviations of break constraints.
+use Rattle.robinx.specs.Kinds.{kindOf}
+use Rattle.season.specs.Counted.{entriesIn}
+use Rattle.season.proofs.Unknown.{unknown-kind}
+use native.Mathlib.Omega.{arith}
+use borrow.Author.Needs.{needs}
+use Rattle.season.proofs.rules.entries_of_break.Statement.{statement}
+use Rattle.season.proofs.rules.entries_of_break.Tie as tie
+
+teams-in-requires : tie.Need-teams-in-requires
+teams-in-requires c κs = search needs
+
+returns : tie.Need-returns
+unfolding entriesIn kindOf
+returns c = rw (c .before .match .keys1) (c .teams-in .ensures .0)
+
+returns-2 : tie.Need-returns-2
+unfolding entriesIn kindOf
+returns-2 c = rw (c .match .keys2)
+
+returns-3 : tie.Need-returns-3
+unfolding entriesIn
+returns-3 c = rw (unknown-kind (c .before .args .c .kind) (omega arith))
+
+pub entries-of-break-spec : {M : Type 1} → statement M
+entries-of-break-spec = tie.close (tie.spec teams-in-requires returns returns-2 returns-3)

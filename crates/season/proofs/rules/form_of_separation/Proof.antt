@@ -1,0 +1,26 @@
+-- The kinds of separation constraints.
+use Rattle.robinx.specs.Kinds.{kindOf}
+use Rattle.robinx.specs.Rules.{formOf}
+use Rattle.season.proofs.Unknown.{unknown-kind}
+use native.Mathlib.Omega.{arith}
+use borrow.Author.Needs.{needs}
+use Rattle.season.proofs.rules.form_of_separation.Statement.{statement}
+use Rattle.season.proofs.rules.form_of_separation.Tie as tie
+
+form-requires : tie.Need-form-requires
+form-requires c κs = search needs
+
+form-of-none-requires : tie.Need-form-of-none-requires
+form-of-none-requires c κs = search needs
+
+returns : tie.Need-returns
+unfolding formOf kindOf
+returns c = rw (c .before .match .keys1) (c .form .ensures)
+
+returns-2 : tie.Need-returns-2
+unfolding formOf
+returns-2 c = rw (unknown-kind (c .before .before .args .kind) (omega arith)) (c .form-of-none .ensures)
+
+pub form-of-separation-spec : {M : Type 1} → statement M
+form-of-separation-spec =
+    tie.close (tie.spec form-requires form-of-none-requires returns returns-2)

@@ -1,0 +1,4 @@
+pub mod Sizes
+pub mod Counted
+pub mod Meetings
+pub mod Examination

@@ -1,0 +1,270 @@
+// The rules that a constraint keeps, and how many deviations it has.
+ghost use mathlib.Core.Path.{_≡_};
+ghost use mathlib.Core.Bool.{Bool, true, false};
+ghost use Prim.Native.Nat.{ℕ, _+_, _-_, _*_, _<_, _≤_, _^_};
+ghost use lib.Count.{ones};
+ghost use Rattle.robinx.specs.Kinds.{kindOf};
+ghost use Rattle.robinx.specs.Rules.{formOf, fits, obeys};
+ghost use Rattle.season.specs.Counted.{row, headKeeps, countsKeep, groupsKeep, sizesKeep, pairsIn, entriesIn};
+use robinx::Constraint;
+use robinx::Form;
+
+// A row of the table of kinds, in the order of its columns.
+fn form(
+    modes: u8,
+    kmin: bool,
+    kmax: bool,
+    w: bool,
+    t2: bool,
+    s: bool,
+    least: u8,
+    fewest: u8,
+    several: bool,
+) -> Form
+    ensures { λ r. ⌜ r ≡ row modes kmin kmax w t2 s least fewest several ⌝ }
+{
+    Form {
+        modes,
+        kmin,
+        kmax,
+        w,
+        t2,
+        s,
+        least,
+        fewest,
+        several,
+    }
+}
+
+// No mode is one of an unknown kind.
+fn form_of_none() -> Form
+    ensures { λ r. ⌜ r ≡ row 0 false false false false false 0 1 false ⌝ }
+{
+    form(0, false, false, false, false, false, 0, 1, false)
+}
+
+fn form_of_capacity(kind: u8) -> Form
+    requires { ⌜ (10 ≤ kind) × (kind ≤ 19) ⌝ }
+    ensures { λ r. ⌜ r ≡ formOf (kindOf kind) ⌝ }
+{
+    match kind {
+        11 => form(3, true, true, false, false, true, 0, 1, false),
+        12 => form(3, true, true, false, true, true, 0, 1, true),
+        13 => form(3, true, true, true, true, false, 0, 1, false),
+        14 => form(6, true, true, false, true, true, 0, 2, false),
+        _ => form_of_none(),
+    }
+}
+
+fn form_of_game(kind: u8) -> Form
+    requires { ⌜ (20 ≤ kind) × (kind ≤ 29) ⌝ }
+    ensures { λ r. ⌜ r ≡ formOf (kindOf kind) ⌝ }
+{
+    match kind {
+        21 => form(1, true, true, false, true, true, 0, 1, false),
+        _ => form_of_none(),
+    }
+}
+
+fn form_of_break(kind: u8) -> Form
+    requires { ⌜ (30 ≤ kind) × (kind ≤ 39) ⌝ }
+    ensures { λ r. ⌜ r ≡ formOf (kindOf kind) ⌝ }
+{
+    match kind {
+        31 => form(6, false, true, false, false, true, 0, 1, false),
+        32 => form(6, false, true, false, false, true, 1, 2, false),
+        _ => form_of_none(),
+    }
+}
+
+fn form_of_fairness(kind: u8) -> Form
+    requires { ⌜ (40 ≤ kind) × (kind ≤ 49) ⌝ }
+    ensures { λ r. ⌜ r ≡ formOf (kindOf kind) ⌝ }
+{
+    match kind {
+        41 => form(1, false, true, false, false, true, 0, 1, false),
+        42 => form(3, false, true, false, false, true, 0, 2, false),
+        _ => form_of_none(),
+    }
+}
+
+fn form_of_separation(kind: u8) -> Form
+    requires { ⌜ (50 ≤ kind) × (kind ≤ 59) ⌝ }
+    ensures { λ r. ⌜ r ≡ formOf (kindOf kind) ⌝ }
+{
+    match kind {
+        51 => form(1, false, false, true, false, false, 0, 2, false),
+        _ => form_of_none(),
+    }
+}
+
+// What a kind asks of its constraints.
+pub fn form_of(kind: u8) -> Form
+    ensures { λ r. ⌜ r ≡ formOf (kindOf kind) ⌝ }
+{
+    match kind {
+        10..=19 => form_of_capacity(kind),
+        20..=29 => form_of_game(kind),
+        30..=39 => form_of_break(kind),
+        40..=49 => form_of_fairness(kind),
+        50..=59 => form_of_separation(kind),
+        _ => form_of_none(),
+    }
+}
+
+// A field that is used is in its range, one that is not is 0.
+fn allows(used: bool, low: u64, high: u64, v: u64) -> bool
+    ensures { λ r. ⌜ r ≡ fits used low high v ⌝ }
+{
+    if used {
+        (low <= v) & (v <= high)
+    } else {
+        v == 0
+    }
+}
+
+fn head_keeps(f: Form, c: Constraint) -> bool
+    ensures { λ r. ⌜ r ≡ headKeeps f c ⌝ }
+{
+    allows(true, 1, f.modes as u64, c.mode as u64)
+        & (c.hard <= 1)
+        & allows(true, 1, 5, c.function as u64)
+        & allows(true, 1, 255, c.weight as u64)
+}
+
+fn counts_keep(f: Form, c: Constraint) -> bool
+    ensures { λ r. ⌜ r ≡ countsKeep f c ⌝ }
+{
+    allows(f.kmin, 0, c.kmax as u64, c.kmin as u64)
+        & allows(f.kmax, f.least as u64, 255, c.kmax as u64)
+        & allows(f.w, 1, 255, c.w as u64)
+}
+
+// The group of all members below n.
+fn everyone(n: usize) -> u64
+    requires { ⌜ n ≤ 64 ⌝ }
+    ensures { λ r. ⌜ r ≡ 2 ^ n - 1 ⌝ }
+{
+    if n == 64 { u64::MAX } else { (1u64 << n) - 1 }
+}
+
+fn groups_keep(f: Form, c: Constraint, n: usize, p: usize) -> bool
+    requires { ⌜ (n ≤ 32) × (p ≤ 64) ⌝ }
+    ensures { λ r. ⌜ r ≡ groupsKeep f n p c ⌝ }
+{
+    let teams = everyone(n);
+    allows(true, 1, teams, c.t1 as u64)
+        & allows(f.t2, 1, teams, c.t2 as u64)
+        & allows(f.s, 1, everyone(p), c.s)
+}
+
+// A group's size.
+fn teams_in(t: u32) -> usize
+    ensures { λ r. ⌜ (r ≡ ones t) × (r ≤ 32) ⌝ }
+{
+    u32::count_ones(t) as usize
+}
+
+fn slots_in(s: u64) -> usize
+    ensures { λ r. ⌜ r ≡ ones s ⌝ }
+{
+    u64::count_ones(s) as usize
+}
+
+fn sizes_keep(f: Form, c: Constraint) -> bool
+    ensures { λ r. ⌜ r ≡ sizesKeep f c ⌝ }
+{
+    let teams = teams_in(c.t1);
+    (f.fewest as usize <= teams) & (!f.several | ((2 <= teams) | (2 <= teams_in(c.t2))))
+}
+
+// Whether a constraint keeps every rule of its kind.
+pub fn keeps_rules(c: Constraint, n: usize, p: usize) -> bool
+    requires { ⌜ (n ≤ 32) × (p ≤ 64) ⌝ }
+    ensures { λ r. ⌜ r ≡ obeys n p c ⌝ }
+{
+    let f = form_of(c.kind);
+    head_keeps(f, c) & counts_keep(f, c) & groups_keep(f, c, n, p) & sizes_keep(f, c)
+}
+
+fn pairs_of(t: u32) -> usize
+    ensures { λ r. ⌜ r ≡ pairsIn t ⌝ }
+{
+    let k = teams_in(t);
+    (k * k - k) / 2
+}
+
+fn entries_of_capacity(c: Constraint) -> usize
+    requires { ⌜ (10 ≤ c .kind) × (c .kind ≤ 19) ⌝ }
+    ensures { λ r. ⌜ r ≡ entriesIn c ⌝ }
+{
+    let kind = c.kind;
+    match kind {
+        11 => teams_in(c.t1),
+        12 => teams_in(c.t1),
+        13 => teams_in(c.t1),
+        14 => { if c.mode <= 3 { 1 } else { slots_in(c.s) } }
+        _ => 0,
+    }
+}
+
+fn entries_of_game(c: Constraint) -> usize
+    requires { ⌜ (20 ≤ c .kind) × (c .kind ≤ 29) ⌝ }
+    ensures { λ r. ⌜ r ≡ entriesIn c ⌝ }
+{
+    let kind = c.kind;
+    match kind {
+        21 => 1,
+        _ => 0,
+    }
+}
+
+fn entries_of_break(c: Constraint) -> usize
+    requires { ⌜ (30 ≤ c .kind) × (c .kind ≤ 39) ⌝ }
+    ensures { λ r. ⌜ r ≡ entriesIn c ⌝ }
+{
+    let kind = c.kind;
+    match kind {
+        31 => teams_in(c.t1),
+        32 => 1,
+        _ => 0,
+    }
+}
+
+fn entries_of_fairness(c: Constraint) -> usize
+    requires { ⌜ (40 ≤ c .kind) × (c .kind ≤ 49) ⌝ }
+    ensures { λ r. ⌜ r ≡ entriesIn c ⌝ }
+{
+    let kind = c.kind;
+    match kind {
+        41 => teams_in(c.t1),
+        42 => pairs_of(c.t1),
+        _ => 0,
+    }
+}
+
+fn entries_of_separation(c: Constraint) -> usize
+    requires { ⌜ (50 ≤ c .kind) × (c .kind ≤ 59) ⌝ }
+    ensures { λ r. ⌜ r ≡ entriesIn c ⌝ }
+{
+    let kind = c.kind;
+    match kind {
+        51 => pairs_of(c.t1),
+        _ => 0,
+    }
+}
+
+// How many deviations a constraint has.
+pub fn entries(c: Constraint) -> usize
+    ensures { λ r. ⌜ r ≡ entriesIn c ⌝ }
+{
+    let kind = c.kind;
+    match kind {
+        10..=19 => entries_of_capacity(c),
+        20..=29 => entries_of_game(c),
+        30..=39 => entries_of_break(c),
+        40..=49 => entries_of_fairness(c),
+        50..=59 => entries_of_separation(c),
+        _ => 0,
+    }
+}
