@@ -30,12 +30,12 @@ orElse zero b = b
 orElse (suc a) b = suc a
 
 -- no sentence has the number 0
-abbrev Numbered : List Sentence → Type 0
+abbrev pub Numbered : List Sentence → Type 0
 Numbered [] = Unit {0}
 Numbered (sentence zero b ∷ l) = ⊥
 Numbered (sentence (suc n) b ∷ l) = Numbered l
 
-first-of-both : (l r : List Sentence) → Numbered l → firstTrue (l ++ r) ≡ orElse (firstTrue l) (firstTrue r)
+pub first-of-both : (l r : List Sentence) → Numbered l → firstTrue (l ++ r) ≡ orElse (firstTrue l) (firstTrue r)
 unfolding firstTrue
 first-of-both [] r h = refl
 first-of-both (sentence zero b ∷ l) r h = absurd h

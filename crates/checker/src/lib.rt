@@ -1,0 +1,2 @@
+// The three calls of the console.
+pub mod admission;
