@@ -19,3 +19,9 @@ pub record Admits (season sheet : List ℕ) (ledger tally : ℕ) (r : Admission)
 
 abbrev pub refusedBy : ℕ → Admission
 refusedBy number = record { fault = number; unplaced = 0 }
+
+-- a call that has passed them: no sentence is true, and the tables are those of its sheet
+pub record Ready (season sheet : List ℕ) (ledger tally unplacedGames : ℕ) (home away meets : List ℕ) : Type 0 where
+  pub passed : entryFault season sheet ledger tally ≡ 0
+  pub tables : Fits 32 true home away meets (decode season .home) (decode season .away) sheet
+  pub count : unplacedGames ≡ unplaced sheet (decode season .G)

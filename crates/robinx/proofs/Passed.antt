@@ -52,20 +52,24 @@ pub record Passed (season sheet : List ℕ) (ledger tally : ℕ) : Type 0 where
   pub s7 : sentence7 (decode season) (length sheet) ledger tally ≡ false
   pub s8 : sentence8 (decode season) sheet ≡ false
 
+pub all-passed : (season sheet : List ℕ) (ledger tally : ℕ)
+    → firstTrue (ofSeason season ++ ofBuffers (decode season) sheet ledger tally) ≡ 0 → Passed season sheet ledger tally
+all-passed season sheet ledger tally h =
+    let c = none-true (ofSeason season ++ ofBuffers (decode season) sheet ledger tally) h in
+    record {
+      s1 = c .0;
+      s2 = c .1 .0;
+      s3 = c .1 .1 .0;
+      s4 = c .1 .1 .1 .0;
+      s5 = c .1 .1 .1 .1 .0;
+      s7 = c .1 .1 .1 .1 .1 .0;
+      s8 = c .1 .1 .1 .1 .1 .1 .0;
+    }
+
 module _ (season sheet : List ℕ) (ledger tally : List ℕ) where
   pub passed : openFault season sheet ledger tally ≡ 0 → Passed season sheet (length ledger) (length tally)
   unfolding openFault
-  passed h =
-      let c = none-true (ofSeason season ++ ofBuffers (decode season) sheet (length ledger) (length tally)) h in
-      record {
-        s1 = c .0;
-        s2 = c .1 .0;
-        s3 = c .1 .1 .0;
-        s4 = c .1 .1 .1 .0;
-        s5 = c .1 .1 .1 .1 .0;
-        s7 = c .1 .1 .1 .1 .1 .0;
-        s8 = c .1 .1 .1 .1 .1 .1 .0;
-      }
+  passed h = all-passed season sheet (length ledger) (length tally) h
 
   -- a call's own sentences are read after those of season and buffers
   pub fault-of-call : (k : Call)

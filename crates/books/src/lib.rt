@@ -1,0 +1,3 @@
+// stub
+pub mod touch;
+pub mod walk;
