@@ -209,8 +209,8 @@ fn swap(
 {
     let homes = season::reader::homes(season, z);
     let aways = season::reader::aways(season, z);
-    let a = sheet[g];
-    let b = sheet[h];
+    let here = sheet[g];
+    let there = sheet[h];
     if timetable::swap(
         homes,
         aways,
@@ -224,17 +224,17 @@ fn swap(
         let first = Move {
             home: homes[g],
             away: aways[g],
-            from: a,
-            to: b,
+            from: here,
+            to: there,
         };
         let second = Move {
             home: homes[h],
             away: aways[h],
-            from: b,
-            to: a,
+            from: there,
+            to: here,
         };
-        sheet[g] = b;
-        sheet[h] = a;
+        sheet[g] = there;
+        sheet[h] = here;
         return rework(
             season,
             z,

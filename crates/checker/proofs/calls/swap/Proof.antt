@@ -33,12 +33,12 @@ aways-requires : tie.Need-aways-requires
 aways-requires c κs = is-measured (c .before .before .before .before .before .pre .0) (c .before .before .before .before .before .pre .1)
 
 -- src/calls.rt:182:13
-slice-read-a : tie.Need-slice-read-a
-slice-read-a c = omega (arith, as-many-slots (c .before .before .before .before .before .before .before .pre .0))
+slice-read-here : tie.Need-slice-read-here
+slice-read-here c = omega (arith, as-many-slots (c .before .before .before .before .before .before .before .pre .0))
 
 -- src/calls.rt:183:13
-slice-read-b : tie.Need-slice-read-b
-slice-read-b c = omega (arith, as-many-slots (c .before .before .before .before .before .before .before .before .pre .0))
+slice-read-there : tie.Need-slice-read-there
+slice-read-there c = omega (arith, as-many-slots (c .before .before .before .before .before .before .before .before .pre .0))
 
 -- src/calls.rt:184:8
 swap-requires : tie.Need-swap-requires
@@ -156,8 +156,8 @@ swap-spec =
     (tie.spec
     homes-requires
     aways-requires
-    slice-read-a
-    slice-read-b
+    slice-read-here
+    slice-read-there
     swap-requires
     shared-slice-read-t28
     shared-slice-read-t30
