@@ -1,3 +1,0 @@
-// stub
-pub mod touch;
-pub mod walk;
