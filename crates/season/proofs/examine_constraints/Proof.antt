@@ -1,7 +1,6 @@
 -- After c constraints all of them keep the rules, and e is the number of their deviations.
 use mathlib.Core.Path.{_≡_, sym, ap, _∙_}
 use mathlib.Core.List.{_∷_, []}
-use mathlib.Core.Bool.{true, false}
 use Prim.Native.Nat.{_+_, _-_, _≤_}
 use native.Mathlib.Omega.{arith}
 use denote.Ref.{now}
@@ -64,7 +63,9 @@ constraint-at-requires : tie.Need-constraint-at-requires Inv-loop μ-loop
 constraint-at-requires c κs = search needs
 
 keeps-rules-requires : tie.Need-keeps-rules-requires Inv-loop μ-loop
-keeps-rules-requires c κs = let r = in-range (c .before .before .before .before .before .args .z) (c .before .before .before .before .before .pre .1) in (r .teams, r .slots)
+keeps-rules-requires c κs =
+    let r = in-range (c .before .before .before .before .before .args .z) (c .before .before .before .before .before .pre .1) in
+    omega (arith, r)
 
 refused-by-requires : tie.Need-refused-by-requires Inv-loop μ-loop
 refused-by-requires c κs = search needs
