@@ -1,4 +1,5 @@
 pub mod Ready
+pub mod Known
 pub mod Between
 pub mod Games
 pub mod Folds
