@@ -1,5 +1,5 @@
 -- Rows laid for masks, and that what is read off them are the definitions. Assumes nothing.
-use mathlib.Core.Path.{_≡_, refl, ap, ap₂, _∙_}
+use mathlib.Core.Path.{_≡_, refl, sym, ap, ap₂, _∙_}
 use mathlib.Core.Bool.{Bool, true, false}
 use mathlib.Core.List.{List}
 use Prim.Native.Nat.{ℕ, zero, suc, _+_, _-_, _^_, _<_, _≤_}
@@ -7,14 +7,14 @@ use native.Mathlib.Omega.{arith}
 use native.Mathlib.Numerals.{add-one}
 use native.Mathlib.Nat.{add-zero, add-suc}
 use lib.Dec.{eqb}
-use lib.ListN.{getD, set, length, length-set}
-use lib.Seq.{getD-set-same, getD-set-other}
+use lib.ListN.{getD, set, length, length-set, drop, length-drop}
+use lib.Seq.{getD-set-same, getD-set-other, getD-drop, drop-set-add}
 use borrow.Author.Count.{below-none, below-more}
 use Rattle.robinx.specs.Sums.{sumTo, maxTo, only, dist}
 use Rattle.robinx.specs.Groups.{bit, has}
 use Rattle.robinx.specs.Deviations.{worst, outside, inRun}
 use Rattle.robinx.proofs.Ext.{sum-ext, max-ext}
-use Rattle.masks.specs.Rows.{Holds, laid, farthestTo, runsTo}
+use Rattle.masks.specs.Rows.{Holds, laid, HoldsAt, laidAt, farthestTo, runsTo}
 use Rattle.masks.proofs.Width.{worst-stop}
 
 -- one place more
@@ -55,16 +55,49 @@ runs-of row v w low high n l h =
     ap (outside low high)
     (ap₂ _-_ (h (k + w) (omega arith)) (h k (omega arith)) ∙ omega (arith, sum-split (bit v) k w)))
 
--- the distance of two rows of counts, over the slots of a mask
-pub farthest-of : (a b e : List ℕ) (u v S P : ℕ) → S < 2 ^ P → P ≤ 64
-    → Holds a (sumTo (bit u)) 65 → Holds b (sumTo (bit v)) 65 → Holds e (bit S) 64
-    → farthestTo a b e 64 ≡ worst P S (λ k. dist (sumTo (bit u) (suc k)) (sumTo (bit v) (suc k)))
+-- A row among many: what it holds, and what stands elsewhere.
+module _ (rows : List ℕ) (a : ℕ) (f : ℕ → ℕ) where
+  pub laidAt-more : (k : ℕ) {r : List ℕ} {q : ℕ} → r ≡ laidAt rows a f k → q ≡ f k → set r (a + k) q ≡ laidAt rows a f (k + 1)
+  unfolding laidAt
+  laidAt-more k p e = rw (add-one, ← p, ← e)
+
+  pub laidAt-length : (k : ℕ) → length (laidAt rows a f k) ≡ length rows
+  unfolding laidAt
+  laidAt-length zero = refl
+  laidAt-length (suc k) = simp length-set (laidAt-length k)
+
+  laidAt-drop : (k : ℕ) → drop a (laidAt rows a f k) ≡ laid (drop a rows) f k
+  unfolding laidAt laid
+  laidAt-drop zero = refl
+  laidAt-drop (suc k) = drop-set-add a (laidAt rows a f k) k (f k) ∙ ap (λ (l : List ℕ). set l k (f k)) (laidAt-drop k)
+
+  pub laidAt-holds : (n : ℕ) → a + n ≤ length rows → HoldsAt (laidAt rows a f n) a f n
+  laidAt-holds n l k lk =
+      sym (getD-drop a (laidAt rows a f n) k 0) ∙ ap (λ (r : List ℕ). getD r k 0) (laidAt-drop n)
+      ∙ laid-holds (drop a rows) f n (simp length-drop (omega arith)) k lk
+
+  pub laidAt-other : (n i : ℕ) → ((k : ℕ) → k < n → i ≡ a + k → ⊥) → getD (laidAt rows a f n) i 0 ≡ getD rows i 0
+  unfolding laidAt
+  laidAt-other zero i h = refl
+  laidAt-other (suc n) i h =
+      getD-set-other (laidAt rows a f n) (a + n) i (f n) 0 (h n (omega arith)) ∙ laidAt-other n i (λ k l. h k (omega arith))
+
+pub laidAt-ext : (rows : List ℕ) (a : ℕ) {f g : ℕ → ℕ} (n : ℕ) → ((k : ℕ) → k < n → f k ≡ g k) → laidAt rows a f n ≡ laidAt rows a g n
+unfolding laidAt
+laidAt-ext rows a zero h = refl
+laidAt-ext rows a (suc n) h = ap₂ (λ (l : List ℕ) (v : ℕ). set l (a + n) v) (laidAt-ext rows a n (λ k l. h k (omega arith))) (h n (omega arith))
+
+-- the largest distance of equal counts, and over the slots of a mask
+pub farthest-ext : (e : List ℕ) {f f′ g g′ : ℕ → ℕ} (n : ℕ) → ((k : ℕ) → k < n → f k ≡ f′ k) → ((k : ℕ) → k < n → g k ≡ g′ k)
+    → farthestTo e f g n ≡ farthestTo e f′ g′ n
+unfolding farthestTo
+farthest-ext e n hf hg = max-ext n (λ k l. ap (only (eqb (getD e k 0) 1)) (ap₂ dist (hf k l) (hg k l)))
+
+pub farthest-of : (e : List ℕ) (f g : ℕ → ℕ) (S P : ℕ) → S < 2 ^ P → P ≤ 64 → Holds e (bit S) 64
+    → farthestTo e f g 64 ≡ worst P S (λ k. dist (f k) (g k))
 unfolding farthestTo worst
-farthest-of a b e u v S P h l ha hb he =
-    max-ext 64 (λ k lk.
-    ap₂ (λ (t d : ℕ). only (eqb t 1) d) (he k lk)
-    (ap₂ dist (ha (k + 1) (omega arith) ∙ ap (sumTo (bit u)) (add-one k)) (hb (k + 1) (omega arith) ∙ ap (sumTo (bit v)) (add-one k))))
-    ∙ worst-stop P 64 l S (λ k. dist (sumTo (bit u) (suc k)) (sumTo (bit v) (suc k))) h
+farthest-of e f g S P h l he =
+    max-ext 64 (λ k lk. ap (λ (t : ℕ). only (eqb t 1) (dist (f k) (g k))) (he k lk)) ∙ worst-stop P 64 l S (λ k. dist (f k) (g k)) h
 
 -- the largest of f less c is the largest f, less c
 only-less : (t : Bool) (v c : ℕ) → only t (v - c) ≡ only t v - c

@@ -33,7 +33,7 @@ module _ (P N : ℕ) (l : P ≤ N) where
   unfolding sumTo
   sum-stop f none = stop (sumTo f) (λ k a b. omega (arith, none k a b))
 
-  max-stop : (f : ℕ → ℕ) → ((k : ℕ) → P ≤ k → k < N → f k ≡ 0) → maxTo f N ≡ maxTo f P
+  pub max-stop : (f : ℕ → ℕ) → ((k : ℕ) → P ≤ k → k < N → f k ≡ 0) → maxTo f N ≡ maxTo f P
   unfolding maxTo
   max-stop f none = stop (maxTo f) (λ k a b. omega (arith, none k a b))
 

@@ -5,6 +5,7 @@ use Prim.Native.Nat.{ℕ, zero, suc, _+_, _-_, _<_}
 use lib.Dec.{eqb}
 use lib.ListN.{getD, set}
 use Rattle.robinx.specs.Sums.{sumTo, maxTo, only, dist}
+use Rattle.robinx.specs.Groups.{bit}
 use Rattle.robinx.specs.Deviations.{outside}
 
 -- the row holds f at each place below n
@@ -16,9 +17,24 @@ unfoldable pub laid : List ℕ → (ℕ → ℕ) → ℕ → List ℕ
 laid row f zero = row
 laid row f (suc k) = set (laid row f k) k (f k)
 
--- the largest distance of two rows one place after each that the third has as 1, of the first n places
-unfoldable pub farthestTo : List ℕ → List ℕ → List ℕ → ℕ → ℕ
-farthestTo a b e n = maxTo (λ k. only (eqb (getD e k 0) 1) (dist (getD a (k + 1) 0) (getD b (k + 1) 0))) n
+-- Many rows in one table: the row from place a on, and the same of it
+abbrev pub rowAt : List ℕ → ℕ → ℕ → ℕ
+rowAt rows a k = getD rows (a + k) 0
+
+abbrev pub HoldsAt : List ℕ → ℕ → (ℕ → ℕ) → ℕ → Type 0
+HoldsAt rows a f n = (k : ℕ) → k < n → rowAt rows a k ≡ f k
+
+unfoldable pub laidAt : List ℕ → ℕ → (ℕ → ℕ) → ℕ → List ℕ
+laidAt rows a f zero = rows
+laidAt rows a f (suc k) = set (laidAt rows a f k) (a + k) (f k)
+
+-- how many of the slots up to k the mask has
+abbrev pub upTo : ℕ → ℕ → ℕ
+upTo v k = sumTo (bit v) (suc k)
+
+-- the largest distance of f and g at the places that the row e has as 1, of the first n
+unfoldable pub farthestTo : List ℕ → (ℕ → ℕ) → (ℕ → ℕ) → ℕ → ℕ
+farthestTo e f g n = maxTo (λ k. only (eqb (getD e k 0) 1) (dist (f k) (g k))) n
 
 -- how far the row's increases over w places are outside low .. high, summed over the first n places
 unfoldable pub runsTo : List ℕ → ℕ → ℕ → ℕ → ℕ → ℕ

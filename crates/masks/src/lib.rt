@@ -1,13 +1,13 @@
 // Masks of slots: bit k of a u64 stands for slot k, counted from 0. Everything that knows how many slots a mask has is in here.
 ghost use mathlib.Core.Path.{_≡_};
-ghost use Prim.Native.Nat.{_+_, _-_, _<_, _≤_, _^_, max};
+ghost use Prim.Native.Nat.{_+_, _-_, _%_, _<_, _≤_, _^_, max};
 ghost use lib.Bits.{bitOr};
 ghost use lib.Dec.{eqb, ltb};
 ghost use Rattle.robinx.specs.Sums.{only, sumTo, dist};
 ghost use Rattle.robinx.specs.Groups.{bit, has, reaches};
 ghost use Rattle.robinx.specs.Deviations.{over, outside, tooClose};
 ghost use Rattle.masks.specs.Masks.{joined, without, Within, isBreak, Breaks};
-ghost use Rattle.masks.specs.Rows.{laid, farthestTo, runsTo};
+ghost use Rattle.masks.specs.Rows.{rowAt, upTo, laid, laidAt, farthestTo, runsTo};
 
 // Slot k is in the mask.
 pub fn is_in(s: u64, k: u64) -> bool
@@ -55,6 +55,17 @@ pub fn union(m: u64, n: u64) -> u64
     ensures { λ r. ⌜ r ≡ bitOr m n ⌝ }
 {
     m | n
+}
+
+// The mask's slots among the first p.
+pub fn front(m: u64, p: u64) -> u64
+    requires { ⌜ p ≤ 64 ⌝ }
+    ensures { λ r. ⌜ r ≡ m % 2 ^ p ⌝ }
+{
+    if p == 64 {
+        return m;
+    }
+    m & (slot(p) - 1)
 }
 
 // How many slots of m are in s.
@@ -135,6 +146,21 @@ pub fn lay(v: u64, row: &mut [u8; 65])
     row[64] = q;
 }
 
+// A row among many, from place a on: how many slots of v there are up to each slot.
+pub fn lay_at(v: u64, rows: &mut [u8; 2048], a: usize)
+    requires { ⌜ a ≤ 1984 ⌝ }
+    ensures { λ _. ⌜ now (rows .exit) ≡ laidAt (now (rows .entry)) a (upTo v) 64 ⌝ }
+{
+    let mut q: u8 = 0;
+    let mut k = 0;
+    while k < 64 {
+        let one = ((v >> k) % 2) as u8;
+        rows[a + k] = q + one;
+        q += one;
+        k += 1;
+    }
+}
+
 fn larger(x: u8, y: u8) -> u8
     ensures { λ r. ⌜ r ≡ max x y ⌝ }
 {
@@ -162,14 +188,15 @@ fn gap_if(e: u8, x: u8, y: u8) -> u8
     0
 }
 
-// The largest distance of two rows of counts after each slot that the third row has.
-pub fn farthest(a: &[u8; 65], b: &[u8; 65], e: &[u8; 64]) -> u8
-    ensures { λ r. ⌜ r ≡ farthestTo (now (a .entry)) (now (b .entry)) (now (e .entry)) 64 ⌝ }
+// The largest distance of the rows from places a and b on, at the slots that the row e has.
+pub fn farthest(rows: &[u8; 2048], a: usize, b: usize, e: &[u8; 64]) -> u8
+    requires { ⌜ (a ≤ 1984) × (b ≤ 1984) ⌝ }
+    ensures { λ r. ⌜ r ≡ farthestTo (now (e .entry)) (rowAt (now (rows .entry)) a) (rowAt (now (rows .entry)) b) 64 ⌝ }
 {
     let mut m: u8 = 0;
     let mut k = 0;
     while k < 64 {
-        m = larger(m, gap_if(e[k], a[k + 1], b[k + 1]));
+        m = larger(m, gap_if(e[k], rows[a + k], rows[b + k]));
         k += 1;
     }
     m

@@ -5,11 +5,13 @@ pub mod Sums
 pub mod Ext
 pub mod Sizes
 pub mod Lengths
+pub mod Filled
 pub mod Agree
 pub mod Change
 pub mod Valid
 pub mod Bounds
 pub mod Limits
+pub mod Unknown
 pub mod Moved
 pub mod Passed
 pub mod Accepted

@@ -1,6 +1,5 @@
 pub mod Numbers
 pub mod Read
-pub mod Unknown
 pub mod Members
 pub mod Meetings
 pub mod Pass

@@ -1,6 +1,5 @@
 -- One pass over the games finds sentence 4: what the table of meetings holds after each game, and what it says of all of them.
 use mathlib.Core.Path.{_≡_, refl, sym, ap, _∙_}
-use mathlib.Core.Logic.{⊎-elim}
 use mathlib.Core.List.{List}
 use mathlib.Core.Bool.{Bool, true, false, _&&_, _||_, or-true}
 use Prim.Native.Nat.{ℕ, _+_, _*_, _<_, _≤_, min, max}

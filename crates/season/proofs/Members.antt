@@ -1,13 +1,12 @@
 -- A group that the rules allow has only members below n, so that its set bits are its size: the rules and the number of deviations
 -- may be read off set bits.
-use mathlib.Core.Path.{_≡_, refl, sym, _∙_}
+use mathlib.Core.Path.{_≡_, refl, _∙_}
 use mathlib.Core.Bool.{Bool, true, false, _&&_, _||_, not, and-assoc}
-use Prim.Native.Nat.{ℕ, zero, suc, _+_, _-_, _*_, _/_, _%_, _^_, _<_, _≤_}
+use Prim.Native.Nat.{ℕ, zero, suc, _+_, _-_, _*_, _/_, _^_, _<_, _≤_}
 use native.Mathlib.Omega.{arith}
-use native.Mathlib.Nat.{one-mul, mul-le-mul}
+use native.Mathlib.Nat.{mul-le-mul}
 use lib.Dec.{leb}
-use lib.Count.{ones}
-use lib.Pow.{lt-of-le-ones, shl-exact}
+use lib.Pow.{lt-of-le-ones, ones-split, ones-lt, high}
 use Rattle.robinx.specs.Groups.{size, pairs}
 use Rattle.robinx.specs.Kinds.{Kind, kindOf}
 use Rattle.robinx.specs.Rules.{fits, severalTeams, keeps, obeys}
@@ -17,11 +16,14 @@ use Rattle.robinx.specs.declared.Form.{Form}
 use Rattle.robinx.proofs.Sums.{and-yes}
 use Rattle.robinx.proofs.Sizes.{size-ones, pairs-size}
 use Rattle.robinx.proofs.Limits.{fits-le, obeyed}
-use Rattle.season.specs.Counted.{headKeeps, countsKeep, groupsKeep, sizesKeep, pairsIn, entriesInOf, entriesIn}
+use Rattle.season.specs.Counted.{headKeeps, countsKeep, groupsKeep, severalKeep, sizesKeep, pairsIn, entriesInOf, entriesIn}
 
--- one bit, shifted within a word
-pub power : (n : ℕ) → n < 64 → 1 * 2 ^ n % 18446744073709551616 ≡ 2 ^ n
-power n h = shl-exact 1 n 64 (omega arith) (omega arith) ∙ one-mul (2 ^ n)
+-- a word of ones, shifted: all members below n
+pub all-below : (n : ℕ) → n ≤ 64 → 18446744073709551615 / 2 ^ (64 - n) ≡ 2 ^ n - 1
+all-below n h =
+    let e : n + (64 - n) ≡ 64 = omega arith in
+    let words = rw e at (ones-split n (64 - n)) in
+    rw words (high (2 ^ n - 1) (64 - n) (ones-lt (64 - n)))
 
 -- a test counts only where the one before it holds
 guarded : (a b x y : Bool) → (b ≡ true → x ≡ y) → a && b && x ≡ a && b && y
@@ -35,7 +37,7 @@ sizesHold f n c = leb (f .fewest) (size n (c .t1)) && (not (f .several) || sever
 
 module _ (f : Form) (n P : ℕ) (c : Constraint) where
   sizes-counted : groupsKeep f n P c ≡ true → sizesHold f n c ≡ sizesKeep f c
-  unfolding groupsKeep sizesHold sizesKeep
+  unfolding groupsKeep sizesHold sizesKeep severalKeep
   sizes-counted e =
       let teams = and-yes (fits true 1 (2 ^ n - 1) (c .t1)) (fits (f .t2) 1 (2 ^ n - 1) (c .t2)) (and-yes _ (fits (f .s) 1 (2 ^ P - 1) (c .s)) e .0) in
       rw (

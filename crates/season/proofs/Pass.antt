@@ -1,13 +1,13 @@
 -- One pass over the constraints finds sentence 5 and carries the number of deviations.
-use mathlib.Core.Path.{_≡_, refl, sym, ap, _∙_}
-use mathlib.Core.Bool.{Bool, true, false, _||_, not}
+use mathlib.Core.Path.{_≡_, refl}
+use mathlib.Core.Bool.{Bool, true, false, not}
 use Prim.Native.Nat.{ℕ, _+_, _*_, _<_, _≤_}
 use native.Mathlib.Omega.{arith}
 use Rattle.robinx.specs.Sums.{sumTo, anyTo}
 use Rattle.robinx.specs.Season.{Instance}
 use Rattle.robinx.specs.Rules.{obeys}
 use Rattle.robinx.specs.Deviations.{entries}
-use Rattle.robinx.specs.Books.{entriesAt, startAt}
+use Rattle.robinx.specs.Books.{startAt}
 use Rattle.robinx.specs.Refusals.{sentence5}
 use Rattle.robinx.proofs.Sums.{sum-step, any-step, any-some}
 use Rattle.robinx.proofs.Bounds.{entries-small}

@@ -1,7 +1,7 @@
 -- The sizes that were read are those of the decoded season; sentences 2 to 4 by what was read.
-use mathlib.Core.Path.{_≡_, refl, sym, ap, _∙_}
+use mathlib.Core.Path.{_≡_, sym, ap, _∙_}
 use mathlib.Core.List.{List}
-use mathlib.Core.Bool.{Bool, true, false, _&&_, not}
+use mathlib.Core.Bool.{true, false, _&&_, not}
 use Prim.Native.Nat.{ℕ, _+_, _*_, _≤_}
 use lib.Dec.{leb}
 use lib.ListN.{length}
@@ -42,7 +42,9 @@ module _ (s : List ℕ) {z : Season} (e : z ≡ sizesOf s) where
 
 -- the ranges of sizes that are not outside
 pub record InRange (z : Season) : Type 0 where
+  pub teams-least : 2 ≤ z .teams
   pub teams : z .teams ≤ 32
+  pub slots-least : 1 ≤ z .slots
   pub slots : z .slots ≤ 64
   pub games : z .games ≤ 1024
   pub constraints : z .constraints ≤ 1024
@@ -53,9 +55,13 @@ in-range z e =
     let constraints = and-yes (fits true 2 32 (z .teams) && fits true 1 64 (z .slots) && leb (z .games) 1024) (leb (z .constraints) 1024) (not-false _ e) in
     let games = and-yes (fits true 2 32 (z .teams) && fits true 1 64 (z .slots)) (leb (z .games) 1024) (constraints .0) in
     let slots = and-yes (fits true 2 32 (z .teams)) (fits true 1 64 (z .slots)) (games .0) in
+    let teams-in = fits-in 2 32 (z .teams) (slots .0) in
+    let slots-in = fits-in 1 64 (z .slots) (slots .1) in
     record {
-      teams = fits-in 2 32 (z .teams) (slots .0) .1;
-      slots = fits-in 1 64 (z .slots) (slots .1) .1;
+      teams-least = teams-in .0;
+      teams = teams-in .1;
+      slots-least = slots-in .0;
+      slots = slots-in .1;
       games = leb-true (z .games) 1024 (games .1);
       constraints = leb-true (z .constraints) 1024 (constraints .1);
     }

@@ -1,7 +1,7 @@
 -- The rules and the number of deviations with each group's size counted as its set bits. They are those of robinx where the groups
 -- name only teams below n and slots up to P, which the rules ask.
-use mathlib.Core.Bool.{Bool, true, false, _&&_, _||_, not, cond}
-use Prim.Native.Nat.{ℕ, _+_, _-_, _*_, _/_, _^_}
+use mathlib.Core.Bool.{Bool, true, _&&_, _||_, not, cond}
+use Prim.Native.Nat.{ℕ, _-_, _*_, _/_, _^_}
 use lib.Dec.{leb}
 use lib.Count.{ones}
 use Rattle.robinx.specs.Season.{mostByte}
@@ -38,8 +38,11 @@ unfoldable pub groupsKeep : Form → ℕ → ℕ → Constraint → Bool
 groupsKeep f n P c =
     fits true 1 (2 ^ n - 1) (c .t1) && fits (f .t2) 1 (2 ^ n - 1) (c .t2) && fits (f .s) 1 (2 ^ P - 1) (c .s)
 
+unfoldable pub severalKeep : Form → ℕ → ℕ → Bool
+severalKeep f t1 t2 = not (f .several) || (leb 2 (ones t1) || leb 2 (ones t2))
+
 unfoldable pub sizesKeep : Form → Constraint → Bool
-sizesKeep f c = leb (f .fewest) (ones (c .t1)) && (not (f .several) || (leb 2 (ones (c .t1)) || leb 2 (ones (c .t2))))
+sizesKeep f c = leb (f .fewest) (ones (c .t1)) && severalKeep f (c .t1) (c .t2)
 
 -- t members make (t² − t) / 2 pairs
 unfoldable pub pairsIn : ℕ → ℕ

@@ -1,7 +1,7 @@
 // The games of a season: their teams, and how often two of them meet.
 ghost use mathlib.Core.Path.{_≡_};
-ghost use mathlib.Core.Bool.{Bool, true, false};
-ghost use Prim.Native.Nat.{ℕ, _+_, _*_, _<_, _≤_};
+ghost use mathlib.Core.Bool.{true, false};
+ghost use Prim.Native.Nat.{_+_, _*_, _<_, _≤_};
 ghost use lib.ListN.{length, getD, set};
 ghost use Rattle.robinx.specs.Refusals.{sentence4};
 ghost use Rattle.season.specs.Meetings.{pairAt, refused, ofGames};

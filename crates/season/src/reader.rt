@@ -1,6 +1,6 @@
 // Numbers, sizes, game lists and constraints out of a season's bytes, lowest byte first.
 ghost use mathlib.Core.Path.{_≡_};
-ghost use Prim.Native.Nat.{ℕ, _+_, _*_, _<_, _≤_};
+ghost use Prim.Native.Nat.{_+_, _*_, _<_, _≤_};
 ghost use lib.ListN.{length};
 ghost use Rattle.robinx.specs.Season.{number, decode, homeTeams, awayTeams, constraintFrom};
 ghost use Rattle.season.specs.Sizes.{sizesOf, Measured};

@@ -1,11 +1,11 @@
 // The rules that a constraint keeps, and how many deviations it has.
 ghost use mathlib.Core.Path.{_≡_};
-ghost use mathlib.Core.Bool.{Bool, true, false};
-ghost use Prim.Native.Nat.{ℕ, _+_, _-_, _*_, _<_, _≤_, _^_};
+ghost use mathlib.Core.Bool.{true, false};
+ghost use Prim.Native.Nat.{_-_, _*_, _<_, _≤_, _^_};
 ghost use lib.Count.{ones};
 ghost use Rattle.robinx.specs.Kinds.{kindOf};
 ghost use Rattle.robinx.specs.Rules.{formOf, fits, obeys};
-ghost use Rattle.season.specs.Counted.{row, headKeeps, countsKeep, groupsKeep, sizesKeep, pairsIn, entriesIn};
+ghost use Rattle.season.specs.Counted.{row, headKeeps, countsKeep, groupsKeep, severalKeep, sizesKeep, pairsIn, entriesIn};
 use robinx::Constraint;
 use robinx::Form;
 
@@ -142,14 +142,14 @@ fn counts_keep(f: Form, c: Constraint) -> bool
 
 // The group of all members below n.
 fn everyone(n: usize) -> u64
-    requires { ⌜ n ≤ 64 ⌝ }
+    requires { ⌜ (1 ≤ n) × (n ≤ 64) ⌝ }
     ensures { λ r. ⌜ r ≡ 2 ^ n - 1 ⌝ }
 {
-    if n == 64 { u64::MAX } else { (1u64 << n) - 1 }
+    u64::MAX >> (64 - n)
 }
 
 fn groups_keep(f: Form, c: Constraint, n: usize, p: usize) -> bool
-    requires { ⌜ (n ≤ 32) × (p ≤ 64) ⌝ }
+    requires { ⌜ (1 ≤ n) × (n ≤ 32) × (1 ≤ p) × (p ≤ 64) ⌝ }
     ensures { λ r. ⌜ r ≡ groupsKeep f n p c ⌝ }
 {
     let teams = everyone(n);
@@ -171,16 +171,26 @@ fn slots_in(s: u64) -> usize
     u64::count_ones(s) as usize
 }
 
+// One of the groups has more than one team, where the kind asks it.
+fn several_keep(f: Form, t1: u32, t2: u32) -> bool
+    ensures { λ r. ⌜ r ≡ severalKeep f t1 t2 ⌝ }
+{
+    if f.several {
+        (2 <= teams_in(t1)) | (2 <= teams_in(t2))
+    } else {
+        true
+    }
+}
+
 fn sizes_keep(f: Form, c: Constraint) -> bool
     ensures { λ r. ⌜ r ≡ sizesKeep f c ⌝ }
 {
-    let teams = teams_in(c.t1);
-    (f.fewest as usize <= teams) & (!f.several | ((2 <= teams) | (2 <= teams_in(c.t2))))
+    (f.fewest as usize <= teams_in(c.t1)) & several_keep(f, c.t1, c.t2)
 }
 
 // Whether a constraint keeps every rule of its kind.
 pub fn keeps_rules(c: Constraint, n: usize, p: usize) -> bool
-    requires { ⌜ (n ≤ 32) × (p ≤ 64) ⌝ }
+    requires { ⌜ (1 ≤ n) × (n ≤ 32) × (1 ≤ p) × (p ≤ 64) ⌝ }
     ensures { λ r. ⌜ r ≡ obeys n p c ⌝ }
 {
     let f = form_of(c.kind);

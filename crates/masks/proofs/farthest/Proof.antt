@@ -4,16 +4,16 @@ use Prim.Native.Nat.{_-_, _≤_}
 use native.Mathlib.Omega.{arith}
 use native.Mathlib.Numerals.{add-one}
 use Rattle.robinx.specs.Sums.{maxTo}
-use Rattle.masks.specs.Rows.{farthestTo}
+use Rattle.masks.specs.Rows.{rowAt, farthestTo}
 use borrow.Author.Needs.{needs}
 use Rattle.masks.proofs.farthest.Statement.{statement}
 use Rattle.masks.proofs.farthest.Tie as tie
 
 abbrev Inv-loop : tie.InvT-loop
-Inv-loop a b e m₀ k₀ m k = (k ≤ 64) × (m ≡ farthestTo a b e k)
+Inv-loop rows a b e m₀ k₀ m k = (k ≤ 64) × (m ≡ farthestTo e (rowAt rows a) (rowAt rows b) k)
 
 abbrev μ-loop : tie.MeasureT-loop
-μ-loop a b e m₀ k₀ m k = 64 - k
+μ-loop rows a b e m₀ k₀ m k = 64 - k
 
 loop-holds : tie.Need-loop-holds Inv-loop μ-loop
 unfolding farthestTo maxTo

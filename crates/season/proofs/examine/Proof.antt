@@ -5,7 +5,7 @@ use denote.Ref.{now}
 use borrow.Author.Needs.{needs}
 use borrow.Author.Tests.{lt-ltb, le-ltb}
 use Rattle.robinx.specs.Season.{decode}
-use Rattle.robinx.specs.Refusals.{sentence1, sentence2, sentence3, sentence4}
+use Rattle.robinx.specs.Refusals.{sentence1, sentence2, sentence3}
 use Rattle.season.specs.Sizes.{Measured, outOfRange}
 use Rattle.season.proofs.Read.{sizes-tested}
 use Rattle.season.proofs.Found.{measured, fault-1, fault-2, fault-3, fault-4, fault-5}
@@ -46,9 +46,10 @@ refused-by-requires-2 c κs = search needs
 
 returns-2 : tie.Need-returns-2
 returns-2 c =
+    let s = now (c .before .before .before .before .before .before .args .season) in
     rw (c .refused-by2 .ensures)
-    (fault-2 (now (c .before .before .before .before .before .before .args .season)) (false-1 (c .before .before .before .before))
-    (sizes-tested (now (c .before .before .before .before .before .before .args .season)) (c .before .before .before .sizes .ensures) ∙ (sym (c .before .before .sizes-bad .ensures) ∙ c .before .if2 .taken)))
+    (fault-2 s (false-1 (c .before .before .before .before))
+    (sizes-tested s (c .before .before .before .sizes .ensures) ∙ (sym (c .before .before .sizes-bad .ensures) ∙ c .before .if2 .taken)))
 
 length-bad-requires : tie.Need-length-bad-requires
 length-bad-requires c κs = (c .before .before .sizes .ensures, in-range c)
@@ -58,8 +59,10 @@ refused-by-requires-3 c κs = search needs
 
 returns-3 : tie.Need-returns-3
 returns-3 c =
-    rw (c .refused-by3 .ensures)
-    (fault-3 (now (c .before .before .before .before .before .before .before .before .args .season)) (false-1 (c .before .before .before .before .before .before)) (false-2 (c .before .before .before)) (sym (c .before .before .length-bad .ensures) ∙ c .before .if3 .taken))
+    let s = now (c .before .before .before .before .before .before .before .before .args .season) in
+    let one = false-1 (c .before .before .before .before .before .before) in
+    let two = false-2 (c .before .before .before) in
+    rw (c .refused-by3 .ensures) (fault-3 s one two (sym (c .before .before .length-bad .ensures) ∙ c .before .if3 .taken))
 
 meetings-bad-requires : tie.Need-meetings-bad-requires
 meetings-bad-requires c κs = (whole c, in-range (c .before .before))
@@ -69,16 +72,21 @@ refused-by-requires-4 c κs = search needs
 
 returns-4 : tie.Need-returns-4
 returns-4 c =
+    let s = now (c .before .before .before .before .before .before .before .before .before .before .args .season) in
+    let one = false-1 (c .before .before .before .before .before .before .before .before) in
+    let two = false-2 (c .before .before .before .before .before) in
     rw (c .refused-by4 .ensures)
-    (fault-4 (now (c .before .before .before .before .before .before .before .before .before .before .args .season)) (false-1 (c .before .before .before .before .before .before .before .before)) (false-2 (c .before .before .before .before .before)) (false-3 (c .before .before .before)) (sym (c .before .before .meetings-bad .ensures) ∙ c .before .if4 .taken))
+    (fault-4 s one two (false-3 (c .before .before .before)) (sym (c .before .before .meetings-bad .ensures) ∙ c .before .if4 .taken))
 
 examine-constraints-requires : tie.Need-examine-constraints-requires
 examine-constraints-requires c κs = (whole (c .before .before), in-range (c .before .before .before .before))
 
 returns-5 : tie.Need-returns-5
 returns-5 c =
-    fault-5 (now (c .before .before .before .before .before .before .before .before .before .before .args .season)) (false-1 (c .before .before .before .before .before .before .before .before)) (false-2 (c .before .before .before .before .before)) (false-3 (c .before .before .before)) (sym (c .before .before .meetings-bad .ensures) ∙ c .before .if4 .left)
-    (c .examine-constraints .ensures)
+    let s = now (c .before .before .before .before .before .before .before .before .before .before .args .season) in
+    let one = false-1 (c .before .before .before .before .before .before .before .before) in
+    let two = false-2 (c .before .before .before .before .before) in
+    fault-5 s one two (false-3 (c .before .before .before)) (sym (c .before .before .meetings-bad .ensures) ∙ c .before .if4 .left) (c .examine-constraints .ensures)
 
 pub examine-spec : {M : Type 1} → statement M
 examine-spec =

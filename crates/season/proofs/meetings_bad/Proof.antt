@@ -13,10 +13,18 @@ aways-requires : tie.Need-aways-requires
 aways-requires c κs = search needs
 
 games-bad-requires : tie.Need-games-bad-requires
-games-bad-requires c κs = (rw (c .aways .ensures, c .before .homes .ensures) (as-many (now (c .before .before .before .args .season)) (right-length (now (c .before .before .before .args .season)) (c .before .before .before .pre .0))), in-range (c .before .before .before .args .z) (c .before .before .before .pre .1) .teams)
+games-bad-requires c κs =
+    let s = now (c .before .before .before .args .season) in (
+      rw (c .aways .ensures, c .before .homes .ensures) (as-many s (right-length s (c .before .before .before .pre .0))),
+      in-range (c .before .before .before .args .z) (c .before .before .before .pre .1) .teams,
+    )
 
 returns : tie.Need-returns
-returns c = c .games-bad .ensures ∙ rw (c .before .before .homes .ensures, c .before .aways .ensures, teams-read (now (c .before .before .before .before .args .season)) (c .before .before .before .before .pre .0 .sizes)) (games-alone (now (c .before .before .before .before .args .season)) (right-length (now (c .before .before .before .before .args .season)) (c .before .before .before .before .pre .0)))
+returns c =
+    let s = now (c .before .before .before .before .args .season) in
+    let whole = c .before .before .before .before .pre .0 in
+    c .games-bad .ensures
+    ∙ rw (c .before .before .homes .ensures, c .before .aways .ensures, teams-read s (whole .sizes)) (games-alone s (right-length s whole))
 
 pub meetings-bad-spec : {M : Type 1} → statement M
 meetings-bad-spec = tie.close (tie.spec homes-requires aways-requires games-bad-requires returns)

@@ -1,9 +1,10 @@
 -- After g games the table has their meetings; the first game that cannot be is sentence 4.
+use Rattle.season.specs.Meetings.{refused}
 use borrow.Author.Needs.{needs}
 use mathlib.Core.Path.{_≡_, sym, _∙_}
 use native.Mathlib.Omega.{arith}
 use Prim.Native.Nat.{_≤_, _-_}
-use lib.ListN.{length}
+use lib.ListN.{length, getD}
 use denote.Ref.{now}
 use Rattle.season.proofs.Meetings.{Counted, counted-none, counted-more, counted-bad, counted-good}
 use Rattle.season.proofs.games.games_bad.Statement.{statement}
@@ -14,6 +15,23 @@ Inv-loop homes aways n counts₀ g₀ counts g = Counted n homes aways counts g 
 
 abbrev μ-loop : tie.MeasureT-loop
 μ-loop homes aways n counts₀ g₀ counts g = length homes - g
+
+-- the function's entry and the loop's head, from the call in the loop
+abbrev start : tie.After-game-bad Inv-loop μ-loop → tie.Start Inv-loop μ-loop
+start c = c .before .before .before .before .before .before .before .before .before .before
+
+abbrev turn : tie.After-game-bad Inv-loop μ-loop → tie.At-loop Inv-loop μ-loop
+turn c = c .before .before .before .before .before .before .before
+
+-- the call's answer is the test of game g
+tested : (c : tie.After-game-bad Inv-loop μ-loop)
+    → refused
+    (turn c .loop .counts)
+    (getD (now (start c .args .homes)) (turn c .loop .g) 0)
+    (getD (now (start c .args .aways)) (turn c .loop .g) 0)
+    (start c .args .n)
+    ≡ c .game-bad .result
+tested c = rw (← c .before .before .before .wide .ensures .0, ← c .before .wide2 .ensures .0) (sym (c .game-bad .ensures .0))
 
 loop-holds : tie.Need-loop-holds Inv-loop μ-loop
 loop-holds c = (counted-none _ _ _, omega arith)
@@ -34,7 +52,9 @@ game-bad-requires : tie.Need-game-bad-requires Inv-loop μ-loop
 game-bad-requires c κs = search needs
 
 returns : tie.Need-returns Inv-loop μ-loop
-returns c = sym (counted-bad (c .before .before .before .before .before .before .before .before .before .before .before .pre .1) (c .before .before .before .before .before .before .before .before .loop .inv .0) (c .before .before .before .before .before .before .before .loop-test .taken) (rw (← c .before .before .before .before .wide .ensures .0, ← c .before .before .wide2 .ensures .0) (sym (c .before .game-bad .ensures .0) ∙ c .if1 .taken)))
+returns c =
+    let d = c .before in
+    sym (counted-bad (start d .pre .1) (turn d .loop .inv .0) (c .before .before .before .before .before .before .before .loop-test .taken) (tested d ∙ c .if1 .taken))
 
 add-g : tie.Need-add-g Inv-loop μ-loop
 add-g c = search needs
@@ -43,10 +63,17 @@ loop-less : tie.Need-loop-less Inv-loop μ-loop
 loop-less c = search needs
 
 loop-again : tie.Need-loop-again Inv-loop μ-loop
-loop-again c = (rw (c .before .game-bad .ensures .1 (c .if1 .left), c .before .before .before .before .wide .ensures .0, c .before .before .wide2 .ensures .0) (counted-more (c .before .before .before .before .before .before .before .before .before .before .before .pre .1) (c .before .before .before .before .before .before .before .before .loop .inv .0) (rw (← c .before .before .before .before .wide .ensures .0, ← c .before .before .wide2 .ensures .0) (sym (c .before .game-bad .ensures .0) ∙ c .if1 .left))), omega arith)
+loop-again c =
+    let d = c .before in (
+      rw (d .game-bad .ensures .1 (c .if1 .left), c .before .before .before .before .wide .ensures .0, c .before .before .wide2 .ensures .0)
+          (counted-more (start d .pre .1) (turn d .loop .inv .0) (tested d ∙ c .if1 .left)),
+      omega arith,
+    )
 
 returns-2 : tie.Need-returns-2 Inv-loop μ-loop
-returns-2 c = let e : c .before .loop .g ≡ length (now (c .before .before .before .before .args .homes)) = omega arith in sym (counted-good (c .before .before .before .before .pre .1) (rw e at (c .before .loop .inv .0)))
+returns-2 c =
+    let e : c .before .loop .g ≡ length (now (c .before .before .before .before .args .homes)) = omega arith in
+    sym (counted-good (c .before .before .before .before .pre .1) (rw e at (c .before .loop .inv .0)))
 
 pub games-bad-spec : {M : Type 1} → statement M
 games-bad-spec =

@@ -35,7 +35,10 @@ constraint-from-requires c κs = search needs
 
 returns : tie.Need-returns
 unfolding decode
-returns c = rw (← games-read (now (c .before .before .before .before .args .season)) (c .before .before .before .before .pre .0 .sizes), ← constraints-read (now (c .before .before .before .before .args .season)) (c .before .before .before .before .pre .0 .sizes)) (c .constraint-from .ensures)
+returns c =
+    let s = now (c .before .before .before .before .args .season) in
+    let sizes = c .before .before .before .before .pre .0 .sizes in
+    rw (← games-read s sizes, ← constraints-read s sizes) (c .constraint-from .ensures)
 
 pub constraint-at-spec : {M : Type 1} → statement M
 constraint-at-spec =

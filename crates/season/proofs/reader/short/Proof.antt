@@ -27,7 +27,9 @@ add-result : tie.Need-add-result
 add-result c = search needs
 
 returns : tie.Need-returns
-returns c = (two-bytes (now (c .before .before .before .before .before .args .s)) (c .before .before .before .before .before .args .at) _ _ (c .before .before .wide .ensures .0) (c .wide2 .ensures .0), search needs)
+returns c =
+    let a = c .before .before .before .before .before .args in
+    (two-bytes (now (a .s)) (a .at) _ _ (c .before .before .wide .ensures .0) (c .wide2 .ensures .0), search needs)
 
 pub short-spec : {M : Type 1} → statement M
 short-spec =

@@ -1,6 +1,6 @@
 -- The classes of kinds, a ten each.
 use Rattle.season.specs.Counted.{entriesIn}
-use Rattle.season.proofs.Unknown.{unknown-kind}
+use Rattle.robinx.proofs.Unknown.{unknown-kind}
 use native.Mathlib.Omega.{arith}
 use borrow.Author.Needs.{needs}
 use Rattle.season.proofs.rules.entries.Statement.{statement}

@@ -1,7 +1,7 @@
 -- The numbers of deviations of game constraints.
 use Rattle.robinx.specs.Kinds.{kindOf}
 use Rattle.season.specs.Counted.{entriesIn}
-use Rattle.season.proofs.Unknown.{unknown-kind}
+use Rattle.robinx.proofs.Unknown.{unknown-kind}
 use native.Mathlib.Omega.{arith}
 use Rattle.season.proofs.rules.entries_of_game.Statement.{statement}
 use Rattle.season.proofs.rules.entries_of_game.Tie as tie

@@ -1,7 +1,7 @@
 -- The numbers of deviations of separation constraints.
 use Rattle.robinx.specs.Kinds.{kindOf}
 use Rattle.season.specs.Counted.{entriesIn}
-use Rattle.season.proofs.Unknown.{unknown-kind}
+use Rattle.robinx.proofs.Unknown.{unknown-kind}
 use native.Mathlib.Omega.{arith}
 use borrow.Author.Needs.{needs}
 use Rattle.season.proofs.rules.entries_of_separation.Statement.{statement}

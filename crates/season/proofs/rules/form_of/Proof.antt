@@ -1,6 +1,6 @@
 -- The classes of kinds, a ten each.
 use Rattle.robinx.specs.Rules.{formOf}
-use Rattle.season.proofs.Unknown.{unknown-kind}
+use Rattle.robinx.proofs.Unknown.{unknown-kind}
 use native.Mathlib.Omega.{arith}
 use mathlib.Core.Logic.{⊎-elim}
 use borrow.Author.Needs.{needs}

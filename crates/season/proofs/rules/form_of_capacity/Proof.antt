@@ -1,7 +1,7 @@
 -- The kinds of capacity constraints.
 use Rattle.robinx.specs.Kinds.{kindOf}
 use Rattle.robinx.specs.Rules.{formOf}
-use Rattle.season.proofs.Unknown.{unknown-kind}
+use Rattle.robinx.proofs.Unknown.{unknown-kind}
 use native.Mathlib.Omega.{arith}
 use borrow.Author.Needs.{needs}
 use Rattle.season.proofs.rules.form_of_capacity.Statement.{statement}

@@ -27,7 +27,14 @@ allows-requires-3 c κs = search needs
 
 returns : tie.Need-returns
 unfolding groupsKeep
-returns c = rw (c .before .before .before .before .allows .ensures, c .before .before .allows2 .ensures, c .allows3 .ensures, c .before .before .before .before .before .before .everyone .ensures, c .before .everyone2 .ensures)
+returns c =
+    rw (
+      c .before .before .before .before .allows .ensures,
+      c .before .before .allows2 .ensures,
+      c .allows3 .ensures,
+      c .before .before .before .before .before .before .everyone .ensures,
+      c .before .everyone2 .ensures,
+    )
 
 pub groups-keep-spec : {M : Type 1} → statement M
 groups-keep-spec =

@@ -22,7 +22,15 @@ sizes-keep-requires c κs = search needs
 
 returns : tie.Need-returns
 unfolding obeys
-returns c = rw (c .before .before .before .head-keeps .ensures, c .before .before .counts-keep .ensures, c .before .groups-keep .ensures, c .sizes-keep .ensures, c .before .before .before .before .form-of .ensures, keeps-counted)
+returns c =
+    rw (
+      c .before .before .before .head-keeps .ensures,
+      c .before .before .counts-keep .ensures,
+      c .before .groups-keep .ensures,
+      c .sizes-keep .ensures,
+      c .before .before .before .before .form-of .ensures,
+      keeps-counted,
+    )
 
 pub keeps-rules-spec : {M : Type 1} → statement M
 keeps-rules-spec =

@@ -1,0 +1,71 @@
+-- The figures of the teams are the deviations of CA1, CA2 and CA3.
+use mathlib.Core.Path.{_≡_, refl, sym, ap, _∙_}
+use mathlib.Core.List.{List}
+use mathlib.Core.Bool.{Bool, true, false, cond}
+use Prim.Native.Nat.{ℕ, suc, _+_, _-_, _^_, _<_, _≤_}
+use native.Mathlib.Omega.{arith}
+use native.Mathlib.Decide.{ℕ-discrete}
+use native.Mathlib.Numerals.{add-one}
+use lib.Dec.{eqb}
+use lib.ListN.{length}
+use lib.Pow.{ones-lt}
+use Rattle.robinx.specs.Sums.{sumTo}
+use Rattle.robinx.specs.Groups.{bit, size}
+use Rattle.robinx.specs.Timetable.{X, side}
+use Rattle.robinx.specs.Kinds.{kindOf}
+use Rattle.robinx.specs.Deviations.{each, over, outside, inRun, devCA1, devCA2, devCA3, deviationsOf, deviations, entries}
+use Rattle.robinx.specs.declared.Constraint.{Constraint}
+use Rattle.robinx.proofs.Sums.{sum-zero}
+use Rattle.robinx.proofs.Ext.{sum-ext, over-ext, each-ext}
+use Rattle.robinx.proofs.Lengths.{length-each, length-deviations}
+use Rattle.robinx.proofs.Limits.{Obeys}
+use Rattle.masks.specs.Rows.{laid, runsTo}
+use Rattle.masks.proofs.Width.{over-stop}
+use Rattle.masks.proofs.Rows.{laid-holds, runs-of}
+use Rattle.figures.specs.Games.{MaskOf, rivals, offCount, offRuns, teamFigure}
+use Rattle.figures.proofs.Games.{against-all}
+
+-- a mask's count is that of the games it stands for
+pub count-games : (P : ℕ) (c : Constraint) {f : ℕ → ℕ} (m : ℕ) → P ≤ 64 → c .s < 2 ^ P → MaskOf f m
+    → outside (c .kmin) (c .kmax) (over 64 (c .s) (bit m)) ≡ offCount P c f
+count-games P c {f} m l h e =
+    ap (outside (c .kmin) (c .kmax)) (over-stop P 64 l (c .s) (bit m) h ∙ over-ext P (c .s) (λ k lk s. e k (omega arith)))
+
+pub run-games : (P : ℕ) (c : Constraint) {f : ℕ → ℕ} (m : ℕ) → P ≤ 64 → MaskOf f m → offRuns P c (bit m) ≡ offRuns P c f
+unfolding inRun
+run-games P c m l e =
+    sum-ext (suc P - c .w) (λ a la. ap (outside (c .kmin) (c .kmax)) (sum-ext (c .w) (λ d ld. e (a + d) (omega arith))))
+
+-- no run is longer than all slots
+pub no-runs : (P : ℕ) (c : Constraint) (f : ℕ → ℕ) → P < c .w → offRuns P c f ≡ 0
+no-runs P c f h = let e : suc P - c .w ≡ 0 = omega arith in sum-zero (suc P - c .w) (λ a l. absurd (omega arith))
+
+-- the row of a mask's counts shows its runs
+pub runs-laid : (P : ℕ) (c : Constraint) (m : ℕ) (before row : List ℕ) → length before ≡ 65 → row ≡ laid before (sumTo (bit m)) 65
+    → c .w ≤ P → P ≤ 64 → runsTo row (c .w) (c .kmin) (c .kmax) (P + 1 - c .w) ≡ offRuns P c (bit m)
+runs-laid P c m before row long e w l =
+    ap (λ (k : ℕ). runsTo row (c .w) (c .kmin) (c .kmax) (k - c .w)) (add-one P)
+    ∙ runs-of row m (c .w) (c .kmin) (c .kmax) (suc P - c .w) (omega arith) (rw e (laid-holds before (sumTo (bit m)) 65 (omega arith)))
+
+pub rivals-small : {n P : ℕ} {c : Constraint} → Obeys n P c → rivals n c < 2 ^ n
+rivals-small {n} {P} {c} o = go (eqb (c .kind) 11)
+  where
+    go : (b : Bool) → cond b (2 ^ n - 1) (c .t2) < 2 ^ n
+    go true = ones-lt n
+    go false = o .t2
+
+module _ (n P : ℕ) (c : Constraint) (x : X) where
+  pub team-figures : 11 ≤ c .kind → c .kind ≤ 13 → each n (c .t1) (teamFigure n P c x) ≡ deviations n P c x
+  unfolding deviations kindOf deviationsOf devCA1 devCA2 devCA3
+  team-figures low high = go (ℕ-discrete (c .kind) 11) (ℕ-discrete (c .kind) 12)
+    where
+      go : Dec (c .kind ≡ 11) → Dec (c .kind ≡ 12) → each n (c .t1) (teamFigure n P c x) ≡ deviations n P c x
+      go (yes e) d =
+          rw e (each-ext n (c .t1) (λ t l h.
+          ap (outside (c .kmin) (c .kmax)) (over-ext P (c .s) (λ k lk s. against-all n x (side (c .mode)) t (2 ^ n - 1) k refl))))
+      go (no a) (yes e) = rw e refl
+      go (no a) (no b) = let e : c .kind ≡ 13 = omega arith in rw e refl
+
+  pub a-place-a-team : 11 ≤ c .kind → c .kind ≤ 13 → entries n P c ≡ size n (c .t1)
+  a-place-a-team low high =
+      sym (length-deviations n P c x) ∙ ap length (sym (team-figures low high)) ∙ length-each n (c .t1) (teamFigure n P c x)

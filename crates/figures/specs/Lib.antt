@@ -1,0 +1,5 @@
+pub mod Figures
+pub mod Between
+pub mod Games
+pub mod Pairs
+pub mod Running

@@ -1,0 +1,124 @@
+// BR1 and BR2: the breaks of each team, and of all teams of the group together.
+ghost use mathlib.Core.Path.{_≡_};
+ghost use mathlib.Core.Bool.{true};
+ghost use Prim.Native.Nat.{_≤_, _<_};
+ghost use lib.ListN.{length};
+ghost use Rattle.robinx.specs.Sums.{sumTo, only};
+ghost use Rattle.robinx.specs.Groups.{has};
+ghost use Rattle.robinx.specs.Timetable.{firstModes};
+ghost use Rattle.robinx.specs.Rules.{obeys};
+ghost use Rattle.robinx.specs.Deviations.{over, offTarget, breaks, devBR1, devBR2};
+ghost use Rattle.masks.specs.Masks.{Within, isBreak};
+ghost use Rattle.timetable.specs.Tables.{Tied, xOf};
+ghost use Rattle.figures.specs.Figures.{Ready};
+use crate::measure::asks_away;
+use crate::measure::asks_home;
+use crate::measure::first_modes;
+use crate::measure::less;
+use crate::measure::mode_sides;
+use masks::breaks_in;
+use masks::is_in;
+use masks::union;
+use robinx::Constraint;
+
+// The breaks of a side in the slots of s, where it is asked for.
+fn breaks_if(asked: bool, side: u64, all: u64, s: u64) -> u32
+    requires { ⌜ Within side all ⌝ }
+    ensures { λ r. ⌜ (r ≡ only asked (over 64 s (λ k. only (isBreak side all k) 1))) × (r ≤ 64) ⌝ }
+{
+    if asked { breaks_in(side, all, s) } else { 0 }
+}
+
+// A team's breaks of the mode's sides in S.
+fn team_breaks(
+    c: Constraint,
+    n: usize,
+    p: usize,
+    home: &[u64; 32],
+    away: &[u64; 32],
+    meets: &[u64; 1024],
+    t: usize,
+) -> u32
+    requires { ⌜ (n ≤ 32) × (p ≤ 64) × (t < n) × (obeys n p c ≡ true) × Tied n (now home) (now away) (now meets) ⌝ }
+    ensures { λ r. ⌜ (r ≡ breaks n p c (xOf (now (meets .entry))) t) × (r ≤ 128) ⌝ }
+{
+    let h = home[t];
+    let a = away[t];
+    let sides = mode_sides(c.mode);
+    let all = union(h, a);
+    breaks_if(asks_home(sides), h, all, c.s) + breaks_if(asks_away(sides), a, all, c.s)
+}
+
+// How far a count of breaks is off kmax: modes 1 to 3 allow fewer.
+fn off_target(mode: u8, kmax: u8, v: u32) -> u32
+    ensures { λ r. ⌜ r ≡ offTarget (firstModes mode) kmax v ⌝ }
+{
+    let more = less(v, kmax as u32);
+    if first_modes(mode) {
+        return more;
+    }
+    less(kmax as u32, v) + more
+}
+
+// The deviations of BR1.
+pub fn fill_breaks(
+    c: Constraint,
+    n: usize,
+    p: usize,
+    home: &[u64; 32],
+    away: &[u64; 32],
+    meets: &[u64; 1024],
+    out: &mut [u32],
+)
+    requires { ⌜ Ready n p c (now home) (now away) (now meets) (now out) × (c .kind ≡ 31) ⌝ }
+    ensures { λ _. ⌜ now (out .exit) ≡ devBR1 n p c (xOf (now (meets .entry))) ⌝ }
+{
+    let mut e = 0;
+    let mut t = 0;
+    while t < n {
+        if is_in(c.t1 as u64, t as u64) {
+            out[e] = off_target(c.mode, c.kmax, team_breaks(c, n, p, home, away, meets, t));
+            e += 1;
+        }
+        t += 1;
+    }
+}
+
+// The breaks of all teams of the group.
+fn group_breaks(
+    c: Constraint,
+    n: usize,
+    p: usize,
+    home: &[u64; 32],
+    away: &[u64; 32],
+    meets: &[u64; 1024],
+) -> u32
+    requires { ⌜ (n ≤ 32) × (p ≤ 64) × (obeys n p c ≡ true) × Tied n (now home) (now away) (now meets) ⌝ }
+    ensures { λ r. ⌜ r ≡ sumTo (λ t. only (has (c .t1) t) (breaks n p c (xOf (now (meets .entry))) t)) n ⌝ }
+{
+    let mut v: u32 = 0;
+    let mut t = 0;
+    while t < n {
+        if is_in(c.t1 as u64, t as u64) {
+            v += team_breaks(c, n, p, home, away, meets, t);
+        }
+        t += 1;
+    }
+    v
+}
+
+// The deviation of BR2.
+pub fn fill_all_breaks(
+    c: Constraint,
+    n: usize,
+    p: usize,
+    home: &[u64; 32],
+    away: &[u64; 32],
+    meets: &[u64; 1024],
+    out: &mut [u32],
+)
+    requires { ⌜ Ready n p c (now home) (now away) (now meets) (now out) × (c .kind ≡ 32) ⌝ }
+    ensures { λ _. ⌜ now (out .exit) ≡ devBR2 n p c (xOf (now (meets .entry))) ⌝ }
+{
+    out[0] = off_target(c.mode, c.kmax, group_breaks(c, n, p, home, away, meets));
+}
