@@ -1,0 +1,4 @@
+pub mod Asked
+pub mod Running
+pub mod Laid
+pub mod Walked
