@@ -2,3 +2,5 @@ pub mod Asked
 pub mod Running
 pub mod Laid
 pub mod Walked
+pub mod Turns
+pub mod Totalled

@@ -15,7 +15,7 @@ use Rattle.robinx.specs.Calls.{gained, lost, change}
 use Rattle.robinx.specs.declared.Constraint.{Constraint}
 use Rattle.robinx.specs.declared.Totals.{Totals}
 use Rattle.robinx.proofs.Sums.{sum-step}
-use Rattle.books.specs.Running.{Holds}
+use Rattle.books.specs.Running.{Holds, Adds}
 
 pub minus-one-less : (m : ℕ) → negsuc 0 -ℤ pos m ≡ negsuc m
 minus-one-less zero = refl
@@ -24,10 +24,6 @@ minus-one-less (suc m) = rw zero-add
 -- a sum with one constraint more
 abbrev pub Grown : ((Constraint → Bool) → ℕ) → Constraint → ℕ → ((Constraint → Bool) → ℕ) → Type 0
 Grown s c p s′ = (want : Constraint → Bool) → s′ want ≡ s want + only (want c) p
-
--- t with the penalty of c added is r
-abbrev pub Adds : Totals → Constraint → ℕ → Totals → Type 0
-Adds t c p r = (r .hard ≡ (t .hard + only (isHard c) p) % 2 ^ 64) × (r .soft ≡ (t .soft + only (isSoft c) p) % 2 ^ 64)
 
 one-more : (a s p v s′ : ℕ) → a ≡ s % 2 ^ 64 → v ≡ (a + p) % 2 ^ 64 → s′ ≡ s + p → v ≡ s′ % 2 ^ 64
 one-more a s p v s′ h e g = e ∙ rw (h, g) (mod-add-mod s (2 ^ 64) p)

@@ -3,7 +3,7 @@ use mathlib.Core.Path.{sym}
 use borrow.Author.Tests.{not-true, not-false}
 use Rattle.robinx.specs.Kinds.{kindOf}
 use Rattle.books.specs.Touched.{teamsAsked}
-use Rattle.season.proofs.Unknown.{unknown-kind}
+use Rattle.robinx.proofs.Unknown.{unknown-kind}
 use Rattle.books.proofs.Asked.{none-asked}
 use borrow.Author.Needs.{needs}
 use Rattle.books.proofs.touch.teams_asked.Statement.{statement}
