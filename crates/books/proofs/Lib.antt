@@ -1,0 +1,6 @@
+pub mod Asked
+pub mod Running
+pub mod Laid
+pub mod Walked
+pub mod Turns
+pub mod Totalled

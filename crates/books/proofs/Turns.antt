@@ -1,0 +1,113 @@
+-- One turn of the walk: what the season gives for constraint number k.
+use mathlib.Core.Path.{_≡_, refl, sym, ap, _∙_}
+use mathlib.Core.List.{List, _++_}
+use mathlib.Core.Bool.{Bool, true, false, not}
+use Prim.Native.Nat.{ℕ, zero, suc, _+_, _-_, _^_, _<_, _≤_}
+use native.Mathlib.Omega.{arith}
+use lib.ListN.{length, getD, set, take, drop}
+use borrow.Author.Tests.{not-false}
+use Rattle.robinx.specs.Sums.{sumTo}
+use Rattle.robinx.specs.Season.{Instance, decode}
+use Rattle.robinx.specs.Deviations.{deviations}
+use Rattle.robinx.specs.Penalty.{sum, penalty}
+use Rattle.robinx.specs.Rules.{obeys}
+use Rattle.robinx.specs.Books.{deviationsAt, entriesAt}
+use Rattle.robinx.specs.Refusals.{sentence5}
+use Rattle.robinx.specs.declared.Constraint.{Constraint}
+use Rattle.robinx.specs.declared.Season.{Season}
+use Rattle.robinx.proofs.Sums.{sum-add, any-none}
+use Rattle.robinx.proofs.Limits.{obeyed}
+use Rattle.robinx.proofs.Bounds.{sum-small}
+use Rattle.season.specs.Counted.{entriesIn}
+use Rattle.season.proofs.Read.{InRange, in-range, teams-read, slots-read, constraints-read, sizes-tested}
+use Rattle.season.proofs.Members.{entries-counted}
+use Rattle.timetable.specs.Tables.{xOf}
+use Rattle.figures.specs.Figures.{Ready}
+use Rattle.books.specs.Running.{Adds}
+use Rattle.books.specs.Walk.{Given, isTouched}
+use Rattle.books.specs.declared.walk.Touch.{Touch}
+use Rattle.books.specs.declared.walk.Moved.{Moved}
+use Rattle.books.proofs.Laid.{part-length}
+use Rattle.books.proofs.Walked.{Walked, walked-fits, walked-reworked, walked-kept}
+
+-- k turns are done
+abbrev pub Walk : List ℕ → Touch → List ℕ → List ℕ → List ℕ → ℕ → ℕ → List ℕ → List ℕ → Moved → Type 0
+Walk s touch meets ledger₀ tally₀ k a ledger tally sums =
+    Walked (decode s) (λ c. isTouched touch (decode s .constraint c)) (xOf meets) ledger₀ tally₀ k a ledger tally (sums .gained) (sums .lost)
+
+-- a filled stretch leaves room for its penalty
+pub small : {n P : ℕ} {c : Constraint} {home away meets out : List ℕ} → Ready n P c home away meets out
+    → sum (deviations n P c (xOf meets)) < 2 ^ 28
+small {n} {P} {c} {home} {away} {meets} r =
+    let o = obeyed n P c (r .rules) in
+    let once : (t k : ℕ) → t < n → k < P → sumTo (λ j. xOf meets t j k + xOf meets j t k) n ≤ 1 =
+    λ t k ht hk.
+    let i = r .tied in
+    let h : k < 64 = omega (arith, r .slots) in
+    omega (arith, sum-add (λ j. xOf meets t j k) (λ j. xOf meets j t k) n, i .home-row t k ht h, i .away-row t k ht h, i .once t k ht h) in
+    omega (arith, sum-small n P (r .teams) (r .slots) (xOf meets) once c (o .kmin) (o .kmax) (o .w))
+
+module _ {s : List ℕ} {z : Season} {home away meets ledger tally : List ℕ} (g : Given s z home away meets ledger tally) where
+  pub all : z .constraints ≡ decode s .C
+  all = constraints-read s (g .measured .sizes)
+
+  pub ranges : InRange z
+  ranges = in-range z (sym (sizes-tested s (g .measured .sizes)) ∙ g .sizes)
+
+  keeps : (k : ℕ) → k < z .constraints → obeys (decode s .n) (decode s .P) (decode s .constraint k) ≡ true
+  unfolding sentence5
+  keeps k l =
+      not-false _ (any-none (λ c. not (obeys (decode s .n) (decode s .P) (decode s .constraint c))) (decode s .C) (g .rules) k (omega (arith, all)))
+
+-- Turn number k, in the words of the code: c has been read, it has e deviations, and its stretch begins at a.
+module _ {s : List ℕ} {z : Season} {home away meets ledger₀ tally₀ : List ℕ} (g : Given s z home away meets ledger₀ tally₀)
+    (touch : Touch) {k a : ℕ} {ledger tally : List ℕ} {sums : Moved} (w : Walk s touch meets ledger₀ tally₀ k a ledger tally sums)
+    (l : k < z .constraints) {c : Constraint} (hc : c ≡ decode s .constraint k) {e : ℕ} (he : e ≡ entriesIn c) where
+  abbrev m : Instance
+  m = decode s
+
+  more : k < m .C
+  more = rw (← all g) l
+
+  entry : e ≡ entriesAt m k
+  entry = he ∙ rw hc (sym (entries-counted (m .n) (m .P) (m .constraint k) (keeps g k l)))
+
+  end : a + e ≡ a + entriesAt m k
+  end = ap (λ (v : ℕ). a + v) entry
+
+  figures : deviations (z .teams) (z .slots) c (xOf meets) ≡ deviationsAt m (xOf meets) k
+  figures = rw (teams-read s (g .measured .sizes), slots-read s (g .measured .sizes), hc)
+
+  -- the stretch lies in the ledger, and can be filled
+  pub turn-fits : a + e ≤ length ledger
+  turn-fits = rw entry (walked-fits w (g .ledger-length) (g .tally-length) more)
+
+  pub turn-counted : k < length tally
+  turn-counted = omega (arith, more, w .listed .long, g .tally-length)
+
+  pub turn-ready : Ready (z .teams) (z .slots) c home away meets (take (a + e - a) (drop a ledger))
+  turn-ready =
+      rw (teams-read s (g .measured .sizes), slots-read s (g .measured .sizes), hc)
+      (record {
+        teams = rw (← teams-read s (g .measured .sizes)) (ranges g .teams);
+        slots = rw (← slots-read s (g .measured .sizes)) (ranges g .slots);
+        rules = keeps g k l;
+        tied = g .tied;
+        places = part-length ledger a (a + e) (entriesAt m k) end turn-fits;
+      })
+
+  pub turn-reworked : {ledger′ ys tally′ : List ℕ} {sums′ : Moved} → isTouched touch c ≡ true
+      → ys ≡ deviations (z .teams) (z .slots) c (xOf meets)
+      → ledger′ ≡ take a ledger ++ (ys ++ drop (a + e - a) (drop a ledger))
+      → tally′ ≡ set tally k (penalty c (deviations (z .teams) (z .slots) c (xOf meets)))
+      → Adds (sums .gained) c (penalty c (deviations (z .teams) (z .slots) c (xOf meets))) (sums′ .gained)
+      → Adds (sums .lost) c (getD tally k 0) (sums′ .lost)
+      → Walk s touch meets ledger₀ tally₀ (k + 1) (a + e) ledger′ tally′ sums′
+  turn-reworked t hy hl ht hg hs =
+      rw ht
+      (walked-reworked w (g .ledger-length) (g .tally-length) more end (rw (← hc) t) (hy ∙ figures) (rw (figures, hc)) hl
+      (rw (← hc) hg)
+      (rw (← hc) hs))
+
+  pub turn-kept : isTouched touch c ≡ false → Walk s touch meets ledger₀ tally₀ (k + 1) (a + e) ledger tally sums
+  turn-kept t = walked-kept w (g .ledger-length) (g .tally-length) more end (rw (← hc) t)

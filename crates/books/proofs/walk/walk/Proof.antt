@@ -1,0 +1,109 @@
+-- Every turn lends out the stretch of a touched constraint, or writes nothing.
+use mathlib.Core.Path.{refl, sym, _∙_}
+use mathlib.Core.Logic.{⊎-elim}
+use Prim.Native.Nat.{_-_, _≤_}
+use native.Mathlib.Omega.{arith}
+use borrow.Author.Needs.{needs}
+use Rattle.books.proofs.Turns.{Walk, all, ranges, turn-fits, turn-counted, turn-ready, turn-reworked, turn-kept}
+use Rattle.books.proofs.Walked.{walked-none, walked-done}
+use Rattle.books.proofs.walk.walk.Statement.{statement}
+use Rattle.books.proofs.walk.walk.Tie as tie
+
+abbrev Inv-loop : tie.InvT-loop
+Inv-loop season z touch home away meets ledger₀ tally₀ sums₀ at₀ k₀ ledger tally sums at k =
+    (k ≤ z .constraints) × Walk season touch meets ledger₀ tally₀ k at ledger tally sums
+
+abbrev μ-loop : tie.MeasureT-loop
+μ-loop season z touch home away meets ledger₀ tally₀ sums₀ at₀ k₀ ledger tally sums at k = z .constraints - k
+
+loop-holds : tie.Need-loop-holds Inv-loop μ-loop
+loop-holds c = (search needs, walked-none _ _ _ _ _ _ refl refl)
+
+constraint-at-requires : tie.Need-constraint-at-requires Inv-loop μ-loop
+constraint-at-requires c κs = (c .before .before .before .before .before .before .pre .0 .measured, c .if1 .taken)
+
+entries-requires : tie.Need-entries-requires Inv-loop μ-loop
+entries-requires c κs = search needs
+
+add-end : tie.Need-add-end Inv-loop μ-loop
+add-end c = omega (arith, turn-fits (c .before .before .before .before .before .before .before .before .pre .0) (c .before .before .before .before .before .before .before .before .args .touch) (c .before .before .before .before .loop .inv .1) (c .before .before .if1 .taken) (c .before .constraint-at .ensures) (c .entries .ensures), c .before .before .before .before .loop .inv .1 .laid .long, c .before .before .before .before .before .before .before .before .good)
+
+is-touched-requires : tie.Need-is-touched-requires Inv-loop μ-loop
+is-touched-requires c κs = (c .before .before .before .before .before .before .before .before .pre .1, c .before .before .before .before .before .before .before .before .pre .2)
+
+mul-renew : tie.Need-mul-renew Inv-loop μ-loop
+mul-renew c = omega (arith, turn-fits (c .before .before .before .before .before .before .before .before .before .before .pre .0) (c .before .before .before .before .before .before .before .before .before .before .args .touch) (c .before .before .before .before .before .before .loop .inv .1) (c .before .before .before .before .if1 .taken) (c .before .before .before .constraint-at .ensures) (c .before .before .entries .ensures), c .before .before .before .before .before .before .loop .inv .1 .laid .long, c .before .before .before .before .before .before .before .before .before .before .good)
+
+sub-renew : tie.Need-sub-renew Inv-loop μ-loop
+sub-renew c = search needs
+
+part-renew-start : tie.Need-part-renew-start Inv-loop μ-loop
+part-renew-start c = search needs
+
+part-renew-end : tie.Need-part-renew-end Inv-loop μ-loop
+part-renew-end c = turn-fits (c .before .before .before .before .before .before .before .before .before .before .pre .0) (c .before .before .before .before .before .before .before .before .before .before .args .touch) (c .before .before .before .before .before .before .loop .inv .1) (c .before .before .before .before .if1 .taken) (c .before .before .before .constraint-at .ensures) (c .before .before .entries .ensures)
+
+renew-requires : tie.Need-renew-requires Inv-loop μ-loop
+renew-requires c κs = (turn-ready (c .before .before .before .before .before .before .before .before .before .before .before .before .pre .0) (c .before .before .before .before .before .before .before .before .before .before .before .before .args .touch) (c .before .before .before .before .before .before .before .before .loop .inv .1) (c .before .before .before .before .before .before .if1 .taken) (c .before .before .before .before .before .constraint-at .ensures) (c .before .before .before .before .entries .ensures), turn-counted (c .before .before .before .before .before .before .before .before .before .before .before .before .pre .0) (c .before .before .before .before .before .before .before .before .before .before .before .before .args .touch) (c .before .before .before .before .before .before .before .before .loop .inv .1) (c .before .before .before .before .before .before .if1 .taken) (c .before .before .before .before .before .constraint-at .ensures) (c .before .before .before .before .entries .ensures))
+
+add-k : tie.Need-add-k Inv-loop μ-loop
+add-k c = omega (arith, c .before .before .before .before .if1 .taken, ranges (c .before .before .before .before .before .before .before .before .before .before .pre .0) .constraints)
+
+loop-less : tie.Need-loop-less Inv-loop μ-loop
+loop-less c = omega (arith, c .before .before .before .before .if1 .taken)
+
+loop-again : tie.Need-loop-again Inv-loop μ-loop
+loop-again c = ⊎-elim
+    (λ w. (
+      omega (arith, c .before .before .before .before .if1 .taken),
+      rw (w .8, w .9, w .10)
+          (turn-reworked (c .before .before .before .before .before .before .before .before .before .before .pre .0) (c .before .before .before .before .before .before .before .before .before .before .args .touch) (c .before .before .before .before .before .before .loop .inv .1) (c .before .before .before .before .if1 .taken) (c .before .before .before .constraint-at .ensures) (c .before .before .entries .ensures)
+          (sym (c .before .is-touched .ensures) ∙ w .0 .taken)
+          (w .3 .ensures .0)
+          refl
+          (w .3 .ensures .1)
+          (w .3 .ensures .2)
+          (w .3 .ensures .3)),
+    ))
+    (λ w. (
+      omega (arith, c .before .before .before .before .if1 .taken),
+      rw (w .1, w .2, w .3)
+          (turn-kept (c .before .before .before .before .before .before .before .before .before .before .pre .0) (c .before .before .before .before .before .before .before .before .before .before .args .touch) (c .before .before .before .before .before .before .loop .inv .1) (c .before .before .before .before .if1 .taken) (c .before .before .before .constraint-at .ensures) (c .before .before .entries .ensures)
+          (sym (c .before .is-touched .ensures) ∙ w .0 .left)),
+    ))
+    (c .if2 .came)
+
+same-length : tie.Need-same-length Inv-loop μ-loop
+same-length c = c .before .before .loop .inv .1 .laid .long
+
+same-length-2 : tie.Need-same-length-2 Inv-loop μ-loop
+same-length-2 c = c .before .before .loop .inv .1 .listed .long
+
+returns : tie.Need-returns Inv-loop μ-loop
+returns c = walked-done (c .before .before .loop .inv .1) (c .before .before .before .before .before .before .pre .0 .ledger-length) (c .before .before .before .before .before .before .pre .0 .tally-length)
+    (omega (arith, all (c .before .before .before .before .before .before .pre .0), c .before .before .loop .inv .0, c .if1 .left))
+    refl
+    refl
+
+pub walk-spec : {M : Type 1} → statement M
+walk-spec =
+    tie.close
+    (tie.spec
+    Inv-loop
+    μ-loop
+    loop-holds
+    constraint-at-requires
+    entries-requires
+    add-end
+    is-touched-requires
+    mul-renew
+    sub-renew
+    part-renew-start
+    part-renew-end
+    renew-requires
+    add-k
+    loop-less
+    loop-again
+    same-length
+    same-length-2
+    returns)

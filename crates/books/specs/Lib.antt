@@ -1,0 +1,3 @@
+pub mod Touched
+pub mod Running
+pub mod Walk

@@ -1,0 +1,17 @@
+-- What two running totals are to hold.
+use mathlib.Core.Path.{_≡_}
+use mathlib.Core.Bool.{Bool}
+use Prim.Native.Nat.{ℕ, _+_, _%_, _^_}
+use Rattle.robinx.specs.Sums.{only}
+use Rattle.robinx.specs.Books.{isHard, isSoft}
+use Rattle.robinx.specs.declared.Constraint.{Constraint}
+use Rattle.robinx.specs.declared.Totals.{Totals}
+
+-- a sum over the hard constraints and the same sum over the soft ones, modulo 2^64
+pub record Holds (sum : (Constraint → Bool) → ℕ) (t : Totals) : Type 0 where
+  pub hard : t .hard ≡ sum isHard % 2 ^ 64
+  pub soft : t .soft ≡ sum isSoft % 2 ^ 64
+
+-- t with the penalty p of the constraint c added is r
+abbrev pub Adds : Totals → Constraint → ℕ → Totals → Type 0
+Adds t c p r = (r .hard ≡ (t .hard + only (isHard c) p) % 2 ^ 64) × (r .soft ≡ (t .soft + only (isSoft c) p) % 2 ^ 64)

@@ -1,0 +1,44 @@
+// Running totals modulo 2^64, their change, and a change read as a signed number.
+ghost use mathlib.Core.Path.{_≡_};
+ghost use mathlib.Core.Bool.{not};
+ghost use Prim.Native.Nat.{ℕ, _+_, _-_, _%_, _^_};
+ghost use lib.Dec.{eqb};
+ghost use mir.Syntax.{w64};
+ghost use mir.Val.{toZ};
+ghost use Rattle.robinx.specs.Sums.{only};
+use robinx::Totals;
+
+// A penalty is added to the hard total or to the soft one.
+pub fn added(t: Totals, hard: u8, p: u64) -> Totals
+    ensures { λ r. ⌜ (r .hard ≡ (t .hard + only (eqb hard 1) p) % 2 ^ 64)
+        × (r .soft ≡ (t .soft + only (not (eqb hard 1)) p) % 2 ^ 64) ⌝ }
+{
+    if hard == 1 {
+        return t.add_hard(p);
+    }
+    t.add_soft(p)
+}
+
+// What was gained less what was lost.
+pub fn change_of(gained: u64, lost: u64) -> u64
+    ensures { λ r. ⌜ r ≡ (gained + (2 ^ 64 - lost)) % 2 ^ 64 ⌝ }
+{
+    std::num::wrapping_sub_u64(gained, lost)
+}
+
+// A total moved by a change.
+pub fn moved_total(old: u64, change: u64) -> u64
+    ensures { λ r. ⌜ r ≡ (old + change) % 2 ^ 64 ⌝ }
+{
+    std::num::wrapping_add_u64(old, change)
+}
+
+// A change as two's complement.
+pub fn signed(d: u64) -> i64
+    ensures { λ r. ⌜ r ≡ toZ w64 d ⌝ }
+{
+    if d < 0x8000_0000_0000_0000 {
+        return d as i64;
+    }
+    -1 - ((u64::MAX - d) as i64)
+}

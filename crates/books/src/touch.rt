@@ -1,0 +1,128 @@
+// Which constraints the change of a game's slot touches. Each kind asks one thing of the two teams and one of the slots.
+ghost use mathlib.Core.Path.{_≡_};
+ghost use mathlib.Core.Bool.{_||_};
+ghost use Prim.Native.Nat.{ℕ, _<_, _≤_};
+ghost use Rattle.robinx.specs.Groups.{has, reaches};
+ghost use Rattle.robinx.specs.Touch.{across};
+ghost use Rattle.books.specs.Touched.{teamsAsked, atSlot, slotAsked, Possible, touchedBy};
+use robinx::Constraint;
+
+// Game (home, away) goes from one slot of the sheet to another; 0 is none.
+pub struct Move {
+    pub home: u8,
+    pub away: u8,
+    pub from: u8,
+    pub to: u8,
+}
+
+// Team t is in the group.
+fn in_group(group: u32, t: u8) -> bool
+    requires { ⌜ t < 32 ⌝ }
+    ensures { λ r. ⌜ r ≡ has group t ⌝ }
+{
+    masks::is_in(group as u64, t as u64)
+}
+
+// One of the two teams is in T1 and the other in T2.
+fn across(c: Constraint, i: u8, j: u8) -> bool
+    requires { ⌜ (i < 32) × (j < 32) ⌝ }
+    ensures { λ r. ⌜ r ≡ across c i j ⌝ }
+{
+    (in_group(c.t1, i) & in_group(c.t2, j)) | (in_group(c.t1, j) & in_group(c.t2, i))
+}
+
+// The teams are such as the kind asks. Every kind asks for one of T1, and most constraints stop at that.
+fn teams_asked(c: Constraint, i: u8, j: u8) -> bool
+    requires { ⌜ (i < 32) × (j < 32) ⌝ }
+    ensures { λ r. ⌜ r ≡ teamsAsked c i j ⌝ }
+{
+    let first = in_group(c.t1, i);
+    let second = in_group(c.t1, j);
+    if !(first | second) {
+        return false;
+    }
+    let kind = c.kind;
+    match kind {
+        11 => true,
+        12 => across(c, i, j),
+        13 => across(c, i, j),
+        14 => across(c, i, j),
+        21 => first & in_group(c.t2, j),
+        31 => true,
+        32 => true,
+        41 => first & second,
+        42 => first & second,
+        51 => first & second,
+        _ => false,
+    }
+}
+
+// The sheet's slot b is in the mask.
+fn in_at(s: u64, b: u8) -> bool
+    requires { ⌜ b ≤ 64 ⌝ }
+    ensures { λ r. ⌜ r ≡ atSlot (has s) b ⌝ }
+{
+    if b == 0 {
+        return false;
+    }
+    masks::is_in(s, (b - 1) as u64)
+}
+
+// .. is at or before the mask's last slot.
+fn reaches_at(s: u64, b: u8) -> bool
+    requires { ⌜ b ≤ 64 ⌝ }
+    ensures { λ r. ⌜ r ≡ atSlot (reaches s) b ⌝ }
+{
+    if b == 0 {
+        return false;
+    }
+    masks::last_reach(s, (b - 1) as u64)
+}
+
+fn one_reaches(s: u64, a: u8, b: u8) -> bool
+    requires { ⌜ (a ≤ 64) × (b ≤ 64) ⌝ }
+    ensures { λ r. ⌜ r ≡ atSlot (reaches s) a || atSlot (reaches s) b ⌝ }
+{
+    reaches_at(s, a) | reaches_at(s, b)
+}
+
+// One of two slots is such as the kind asks.
+fn slots_asked(c: Constraint, a: u8, b: u8) -> bool
+    requires { ⌜ (a ≤ 64) × (b ≤ 64) × (a ≡ b → ⊥) ⌝ }
+    ensures { λ r. ⌜ r ≡ slotAsked c a || slotAsked c b ⌝ }
+{
+    let kind = c.kind;
+    match kind {
+        13 => true,
+        31 => one_reaches(c.s, a, b),
+        32 => one_reaches(c.s, a, b),
+        41 => one_reaches(c.s, a, b),
+        42 => one_reaches(c.s, a, b),
+        51 => true,
+        _ => in_at(c.s, a) | in_at(c.s, b),
+    }
+}
+
+pub fn touches(c: Constraint, v: Move) -> bool
+    requires { ⌜ Possible v ⌝ }
+    ensures { λ r. ⌜ r ≡ touchedBy v c ⌝ }
+{
+    if v.from == v.to {
+        return false;
+    }
+    if teams_asked(c, v.home, v.away) {
+        return slots_asked(c, v.from, v.to);
+    }
+    false
+}
+
+// An exchange touches what either of its moves touches.
+pub fn either_touches(c: Constraint, first: Move, second: Move) -> bool
+    requires { ⌜ Possible first × Possible second ⌝ }
+    ensures { λ r. ⌜ r ≡ touchedBy first c || touchedBy second c ⌝ }
+{
+    if touches(c, first) {
+        return true;
+    }
+    touches(c, second)
+}
