@@ -68,7 +68,7 @@ pub fn open(
         ≡ opened (decode (now (season .entry))) (now (sheet .entry)) ⌝ }
 {
     let z = season::reader::sizes(season);
-    let totals = super::stub::open(season, z, home, away, meets, ledger, tally);
+    let totals = books::open(season, z, home, away, meets, ledger, tally);
     accepted(verdict(unplaced, totals.hard), totals.hard, totals.soft)
 }
 
@@ -79,8 +79,8 @@ fn accepted(number: u8, hard: u64, soft: u64) -> Reply
     Reply {
         declined: false,
         number,
-        infeasibility: super::stub::signed(hard),
-        objective: super::stub::signed(soft),
+        infeasibility: books::totals::signed(hard),
+        objective: books::totals::signed(soft),
     }
 }
 
@@ -101,7 +101,7 @@ fn rework(
     ensures { λ r. ⌜ Answered (decode (now (season .entry))) (byMoves (decode (now (season .entry))) first second) (xOf (now (meets .entry)))
         unplaced (now (ledger .entry)) (now (tally .entry)) (now (ledger .exit)) (now (tally .exit)) r ⌝ }
 {
-    let changes = super::stub::update(
+    let changes = books::update(
         season,
         z,
         first,

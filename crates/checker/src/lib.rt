@@ -1,7 +1,6 @@
 // The three calls of the console. Each meets its definition for every input; a declined call writes nothing.
 pub mod admission;
 pub mod calls;
-pub mod stub;
 
 ghost use mathlib.Core.Path.{_≡_};
 ghost use Rattle.robinx.specs.Calls.{outcome, openCall, setCall, exchangeCall};

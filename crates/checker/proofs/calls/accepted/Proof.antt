@@ -6,7 +6,7 @@ use Rattle.checker.proofs.calls.accepted.Statement.{statement}
 use Rattle.checker.proofs.calls.accepted.Tie as tie
 use Rattle.checker.proofs.calls.accepted.Reads as reads
 use Rattle.checker.proofs.calls.accepted.Lts as lts
-use Rattle.checker.proofs.stub.signed.Reads as signed-reads
+use Rattle.books.proofs.totals.signed.Reads as signed-reads
 
 -- src/calls.rt:78:24
 signed-requires : tie.Need-signed-requires

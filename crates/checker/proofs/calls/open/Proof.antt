@@ -7,7 +7,7 @@ use Rattle.checker.proofs.calls.open.Reads as reads
 use Rattle.checker.proofs.calls.open.Lts as lts
 use Rattle.checker.proofs.calls.accepted.Reads as accepted-reads
 use Rattle.checker.proofs.calls.verdict.Reads as verdict-reads
-use Rattle.checker.proofs.stub.open.Reads as open-reads
+use Rattle.books.proofs.open.Reads as open-reads
 use Rattle.season.proofs.reader.sizes.Reads as sizes-reads
 
 -- src/calls.rt:66:9

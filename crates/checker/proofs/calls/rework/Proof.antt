@@ -9,7 +9,7 @@ use Rattle.checker.proofs.calls.rework.Reads as reads
 use Rattle.checker.proofs.calls.rework.Lts as lts
 use Rattle.checker.proofs.calls.accepted.Reads as accepted-reads
 use Rattle.checker.proofs.calls.verdict.Reads as verdict-reads
-use Rattle.checker.proofs.stub.update.Reads as update-reads
+use Rattle.books.proofs.update.Reads as update-reads
 
 -- src/calls.rt:104:9
 update-requires : tie.Need-update-requires
