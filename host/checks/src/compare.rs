@@ -101,21 +101,17 @@ impl Check {
         self.before = buffers;
     }
 
+    /// What differs: the reply, and the first word of each buffer.
     fn difference(&self, reply: &Reply, wanted: &Outcome) -> Option<String> {
-        let (ledger, tally) = (self.lent.ledger(), self.lent.tally());
-        let mut found = None;
-        let mut note = |difference: Option<String>| {
-            if found.is_none() {
-                found = difference;
-            }
-        };
-        note(self.lent.overrun().map(|name| format!("something was written before or behind the {name}")));
-        note(first("season", self.lent.season(), &self.bytes, |_| String::new()));
-        note((reply != &wanted.reply).then(|| format!("reply: expected {:?}, got {reply:?}", wanted.reply)));
-        note(first("sheet", self.lent.sheet(), &wanted.buffers.sheet, |game| format!(" (game {game})")));
-        note(first("ledger", ledger, &wanted.buffers.ledger, |at| self.place_in_ledger(at)));
-        note(first("tally", tally, &wanted.buffers.tally, |at| self.place_in_tally(at)));
-        found
+        let mut found = Vec::new();
+        found.extend(self.lent.overrun().map(|name| format!("something was written before or behind the {name}")));
+        found.extend((reply != &wanted.reply).then(|| format!("reply: expected {}; got {reply}", wanted.reply)));
+        let buffers = &wanted.buffers;
+        found.extend(first("season", self.lent.season(), &self.bytes, |_| String::new()));
+        found.extend(first("sheet", self.lent.sheet(), &buffers.sheet, |game| format!(" (game {game})")));
+        found.extend(first("ledger", self.lent.ledger(), &buffers.ledger, |at| self.place_in_ledger(at)));
+        found.extend(first("tally", self.lent.tally(), &buffers.tally, |at| self.place_in_tally(at)));
+        (!found.is_empty()).then(|| found.join("\n==== "))
     }
 
     fn place_in_ledger(&self, at: usize) -> String {
@@ -139,9 +135,9 @@ impl Check {
         }
     }
 
-    /// The message of a failure: where, the call, the first difference, the season, the books before the call.
+    /// The message of a failure: where, the call, the differences, the season, the books before the call.
     pub fn describe(&self, call: Call, found: String) -> String {
-        let mut text = format!("\n==== {}, call {}: {call:?}\n==== {found}\n", self.name, self.calls);
+        let mut text = format!("\n==== {}, call {}: {call}\n==== {found}\n", self.name, self.calls);
         let before = &self.before;
         let whole = [&self.bytes[..], &before.sheet].concat();
         match season_text::decode(&whole) {

@@ -3,6 +3,7 @@
 use crate::figures::{deviations, penalty, Diaries};
 use crate::season::{read, sheet_is_valid, Season};
 use crate::touch::touched;
+use std::fmt;
 
 #[derive(Clone, Copy, PartialEq, Eq, Debug)]
 pub struct Reply {
@@ -17,6 +18,23 @@ pub enum Call {
     Open,
     Set { game: u64, slot: u64 },
     Exchange { game: u64, other: u64 },
+}
+
+impl fmt::Display for Call {
+    fn fmt(&self, f: &mut fmt::Formatter) -> fmt::Result {
+        match self {
+            Call::Open => write!(f, "open"),
+            Call::Set { game, slot } => write!(f, "set {game} {slot}"),
+            Call::Exchange { game, other } => write!(f, "exchange {game} {other}"),
+        }
+    }
+}
+
+impl fmt::Display for Reply {
+    fn fmt(&self, f: &mut fmt::Formatter) -> fmt::Result {
+        let what = if self.declined { "refused" } else { "accepted" };
+        write!(f, "{what}, {}, changes {:+} {:+}", self.number, self.infeasibility, self.objective)
+    }
 }
 
 /// The buffers that a call may write.

@@ -41,7 +41,7 @@ fn show(case: &Case) {
     }
     println!("{} words of ledger, {} of tally", case.buffers.ledger.len(), case.buffers.tally.len());
     for (at, call) in case.calls.iter().enumerate() {
-        println!("call {at}: {call:?}");
+        println!("call {at}: {call}");
     }
 }
 

@@ -86,33 +86,46 @@ fn with_all_kinds(random: &mut Random, teams: usize, slots: usize, games: &[(u8,
 #[test]
 fn season_a_games() {
     for case in 0..2 * times() {
-        let mut random = Random::new(seed(21), case);
+        let seed = seed(21);
+        let mut random = Random::new(seed, case);
         let games = [(0, 1), (2, 3), (1, 2), (3, 0), (0, 2), (3, 1)];
-        every_call("every call, games of season A", &with_all_kinds(&mut random, 4, 3, &games, 3));
+        every_call(
+            &format!("every call, games of season A: HOST_SEED={seed}, season {case}"),
+            &with_all_kinds(&mut random, 4, 3, &games, 3),
+        );
     }
 }
 
 #[test]
 fn one_pair_in_many_slots() {
     for case in 0..2 * times() {
-        let mut random = Random::new(seed(22), case);
+        let seed = seed(22);
+        let mut random = Random::new(seed, case);
         let games = [(0, 1), (1, 0), (0, 1), (1, 0)];
-        every_call("every call, one pair", &with_all_kinds(&mut random, 2, 6, &games, 3));
+        every_call(
+            &format!("every call, one pair: HOST_SEED={seed}, season {case}"),
+            &with_all_kinds(&mut random, 2, 6, &games, 3),
+        );
     }
 }
 
 #[test]
 fn three_teams_twice() {
     for case in 0..2 * times() {
-        let mut random = Random::new(seed(23), case);
+        let seed = seed(23);
+        let mut random = Random::new(seed, case);
         let games = [(0, 1), (1, 0), (0, 2), (2, 0), (1, 2), (2, 1)];
-        every_call("every call, three teams", &with_all_kinds(&mut random, 3, 4, &games, 3));
+        every_call(
+            &format!("every call, three teams: HOST_SEED={seed}, season {case}"),
+            &with_all_kinds(&mut random, 3, 4, &games, 3),
+        );
     }
 }
 
 #[test]
 fn four_teams_five_slots() {
-    let mut random = Random::new(seed(24), 0);
+    let seed = seed(24);
+    let mut random = Random::new(seed, 0);
     let games = [(0, 1), (2, 3), (1, 2), (3, 0), (0, 2)];
-    every_call("every call, four teams", &with_all_kinds(&mut random, 4, 5, &games, 2));
+    every_call(&format!("every call, four teams: HOST_SEED={seed}"), &with_all_kinds(&mut random, 4, 5, &games, 2));
 }

@@ -7,7 +7,7 @@ fn follow(name: &str) {
     let mut check = Check::new(name.into(), &season, Check::buffers_for(&season, &sheet));
     assert!(!check.open().declined);
     for call in example_calls(&format!("{name}.calls")) {
-        assert!(!check.make_fresh(call).declined, "{name}: {call:?} is refused");
+        assert!(!check.make_fresh(call).declined, "{name}: {call} is refused");
     }
     // Further calls at random, refused ones among them.
     let mut random = Random::new(seed(1), 0);
