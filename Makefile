@@ -16,13 +16,19 @@ INSTALL ?= install
 
 PROVED ?= target/staticlib/libchecker.a
 LIBRARY = target/libseason_checker.a
+SOURCES = crates.txt $(shell find crates -type f)
+# The program season-report is tested too, once its crate is there.
+REPORT = $(if $(wildcard crates/season_report),target/bin/season_report)
 
 export CARGO_TARGET_DIR = $(CURDIR)/target/cargo
 
 all: $(LIBRARY)
 
-target/staticlib/libchecker.a: crates.txt $(shell find crates -type f)
+target/staticlib/libchecker.a: $(SOURCES)
 	rt staticlib checker
+
+target/bin/season_report: $(SOURCES)
+	rt check season_report
 
 $(LIBRARY): $(PROVED) FORCE
 	@cmp -s $(PROVED) $@ || cp $(PROVED) $@
@@ -43,7 +49,7 @@ text:
 	cargo build --release --offline --quiet --manifest-path host/Cargo.toml --package season-text
 	cp $(CARGO_TARGET_DIR)/release/season-text target/season-text
 
-host-test: $(LIBRARY)
+host-test: $(LIBRARY) $(REPORT)
 	host/test.sh
 
 bench: $(LIBRARY)

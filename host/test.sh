@@ -1,6 +1,6 @@
 #!/bin/sh
 # The tests of what the proof does not cover: the compiled library behind its C interface against an independent checker, the header,
-# the installed files, the example, the text form. Needs cargo, cc, make; uses a C++ compiler, pkg-config and valgrind where there are any.
+# the installed files, the example, the text form. Needs make, cargo, cc; uses a C++ compiler, pkg-config and valgrind where there are any.
 #
 #   host/test.sh          or: make host-test
 #   HOST_TIMES=10 ..      ten times as many random seasons
@@ -12,6 +12,7 @@ work=$root/target/host
 export CARGO_TARGET_DIR=$root/target/cargo
 CC=${CC:-cc}
 mkdir -p "$work"
+command -v cargo > /dev/null || PATH=$PATH:$HOME/.cargo/bin
 
 step() { printf '== %s\n' "$*"; }
 has() {
@@ -91,7 +92,7 @@ if echo 'int main(void) { return 0; }' | $CC -fsanitize=address,undefined -x c -
         $CC -std=c99 -O1 -g -fsanitize=address,undefined -fno-sanitize-recover=all -Iinclude $part target/libseason_checker.a \
             -o "$work/sanitized"
         case $part in
-        *replay.c) "$work/sanitized" "$work/cases" heap ;;
+        *replay.c) "$work/sanitized" "$work/cases" end && "$work/sanitized" "$work/cases" heap ;;
         *) "$work/sanitized" < examples/season-a.moves | cmp examples/season-a.console - ;;
         esac
     done
@@ -99,6 +100,7 @@ else
     echo '   the C compiler has no AddressSanitizer: left out'
 fi
 if has valgrind; then
+    valgrind --quiet --error-exitcode=9 "$work/replay" "$work/cases" end 100
     valgrind --quiet --error-exitcode=9 "$work/replay" "$work/cases" heap 150
     valgrind --quiet --error-exitcode=9 --leak-check=full target/console < examples/season-a.moves > "$work/console.out"
     cmp examples/season-a.console "$work/console.out"

@@ -18,8 +18,8 @@
  *      behind it as its length says.
  *   2. The buffers of one call do not overlap, and nobody else writes them during the call.
  * All else may be anything: every call returns, whatever the buffers hold and whatever numbers it is given, and reads and writes
- * nothing outside them. A refused call leaves every buffer as it was. Calls keep no state between them, so different threads may
- * make calls on different buffers at the same time.
+ * nothing outside them. A refused call leaves every buffer as it was. Calls keep no state between them: threads may make calls at the
+ * same time, each on a sheet, ledger and tally of its own; they may share a season.
  */
 #ifndef SEASON_CHECKER_H
 #define SEASON_CHECKER_H

@@ -116,7 +116,7 @@ fn middle_seasons() {
 
 #[test]
 fn largest_seasons() {
-    let seen = lists("largest seasons", 13, 30 * times(), 60, Shape::LARGEST);
+    let seen = lists("largest seasons", 13, 60 * times(), 60, Shape::LARGEST);
     seen.print("largest seasons");
 }
 

@@ -1,18 +1,19 @@
-//! The program season-report, where it has been built: its printout is the independent checker's.
+//! The program season-report: its printout is the independent checker's.
 
 use checks::{example, example_season, seed, times, Draft, Random, Shape};
 use std::io::Write;
 use std::path::PathBuf;
 use std::process::{Command, Stdio};
 
-/// The program: SEASON_REPORT, or target/bin/season_report.
+/// The program: SEASON_REPORT, or target/bin/season_report; none where its crate is not there either.
 fn program() -> Option<PathBuf> {
-    let built = PathBuf::from(concat!(env!("CARGO_MANIFEST_DIR"), "/../../target/bin/season_report"));
-    let program = std::env::var("SEASON_REPORT").map_or(built, PathBuf::from);
-    if !program.exists() {
-        println!("season-report is not built; its tests are left out");
+    let root = PathBuf::from(concat!(env!("CARGO_MANIFEST_DIR"), "/../.."));
+    let program = std::env::var("SEASON_REPORT").map_or(root.join("target/bin/season_report"), PathBuf::from);
+    if !program.exists() && !root.join("crates/season_report").exists() {
+        println!("there is no season-report; its tests are left out");
         return None;
     }
+    assert!(program.exists(), "{} is not built: rt check season_report", program.display());
     Some(program)
 }
 

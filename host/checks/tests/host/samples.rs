@@ -12,7 +12,7 @@ fn follow(name: &str) {
     // Further calls at random, refused ones among them.
     let mut random = Random::new(seed(1), 0);
     let mover = Mover::new(&mut random, &check.season.clone().unwrap());
-    for _ in 0..100 * times() {
+    for _ in 0..50 * times() {
         let call = mover.call(&mut random, check.season.as_ref().unwrap(), &check.before.sheet);
         check.make_fresh(call);
     }
