@@ -95,8 +95,7 @@ impl Sample {
         let mut made = Made::default();
         let mut lent = Lent::new(&self.bytes, &self.buffers);
         let mut now = self.buffers.clone();
-        let list = std::iter::repeat(Call::Open)
-            .take(opens as usize)
+        let list = std::iter::repeat_n(Call::Open, opens as usize)
             .chain(self.calls.iter().copied().take(calls));
         for call in list {
             let start = Instant::now();

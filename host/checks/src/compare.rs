@@ -154,7 +154,7 @@ impl Check {
             Err(why) => {
                 let hex: Vec<String> = self.bytes.iter().map(|b| format!("{b:02x}")).collect();
                 let _ = write!(text, "==== season ({why})\n{}\nsheet {:?}\n", hex.join(" "), before.sheet);
-                let _ = write!(text, "{} words of ledger, {} of tally\n", before.ledger.len(), before.tally.len());
+                let _ = writeln!(text, "{} words of ledger, {} of tally", before.ledger.len(), before.tally.len());
             }
         }
         text

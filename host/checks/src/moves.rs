@@ -27,7 +27,7 @@ impl Mover {
             9 | 10 => Call::Set { game: game as u64, slot: 0 },
             11 | 12 => Call::Set { game: game as u64, slot: random.within(0, season.slots) as u64 },
             13 => Call::Set { game: game as u64, slot: sheet[game].into() },
-            14 | 15 | 16 if !placed.is_empty() => {
+            14..=16 if !placed.is_empty() => {
                 // one that is accepted, if a few tries find it
                 let mut call = Call::Exchange { game: 0, other: 0 };
                 for _ in 0..6 {
@@ -66,8 +66,8 @@ fn legal_set(random: &mut Random, season: &Season, sheet: &[u8], game: usize) ->
 /// Numbers at and beyond the limits, also such that fit again when their high bits are dropped.
 fn out_of_range(random: &mut Random, games: usize, slots: usize) -> Call {
     let (games, slots) = (games as u64, slots as u64);
-    let low = random.next() % (games + 1);
-    let slot = random.next() % (slots + 1);
+    let low = random.bits() % (games + 1);
+    let slot = random.bits() % (slots + 1);
     let large = random.one_of(&[
         games,
         games + 1,
@@ -79,7 +79,7 @@ fn out_of_range(random: &mut Random, games: usize, slots: usize) -> Call {
         (1 << 63) + low,
         u64::MAX,
         u64::MAX - low,
-        random.clone().next(),
+        random.clone().bits(),
     ]);
     let high_slot = random.one_of(&[
         slots,

@@ -80,7 +80,7 @@ impl Draft {
                     }
                 }
             }
-            1 | 2 | 3 => {
+            1..=3 => {
                 let rounds = random.within(1, 2);
                 for i in 0..teams {
                     for j in (0..teams).filter(|&j| j != i && (rounds == 2 || i < j)) {
@@ -202,8 +202,8 @@ fn group(random: &mut Random, size: usize, fewest: u32) -> u64 {
                 let (a, b) = (random.below(size), random.below(size));
                 (u64::MAX >> (63 - a.max(b))) & (u64::MAX << a.min(b))
             }
-            5 => random.next() & random.next() & all,
-            _ => random.next() & all,
+            5 => random.bits() & random.bits() & all,
+            _ => random.bits() & all,
         };
         if bits.count_ones() >= fewest {
             return bits;

@@ -83,7 +83,7 @@ fn games(diaries: &Diaries, mode: u8, t: usize, against: Option<&[bool]>, slots:
     let mut count = 0;
     for s in slots {
         if let Some(entry) = diaries.of[t][s] {
-            if asks(mode, entry.at_home) && against.map_or(true, |group| group[entry.opponent]) {
+            if asks(mode, entry.at_home) && against.is_none_or(|group| group[entry.opponent]) {
                 count += 1;
             }
         }

@@ -64,14 +64,14 @@ fn case_of(seed: u64, case: u64) -> Case {
     let mut calls = vec![Call::Open];
     if case % 4 == 1 {
         let at = random.below(bytes.len());
-        bytes[at] = random.next() as u8;
+        bytes[at] = random.bits() as u8;
     }
     if case % 8 == 1 {
         bytes.truncate(random.below(bytes.len() + 1));
     }
     if case % 4 == 2 {
         calls.clear();
-        buffers.tally.iter_mut().for_each(|word| *word = random.next());
+        buffers.tally.iter_mut().for_each(|word| *word = random.bits());
     }
     // The calls follow the sheet that they make.
     let mut now = buffers.clone();

@@ -167,8 +167,8 @@ fn spoilt_books() {
 fn spoil(check: &mut Check, random: &mut Random, draft: &Draft) {
     let mut buffers = check.before.clone();
     match random.below(8) {
-        0 => buffers.ledger.iter_mut().for_each(|word| *word = random.next() as u32),
-        1 => buffers.tally.iter_mut().for_each(|word| *word = random.next()),
+        0 => buffers.ledger.iter_mut().for_each(|word| *word = random.bits() as u32),
+        1 => buffers.tally.iter_mut().for_each(|word| *word = random.bits()),
         2 => buffers.tally.iter_mut().for_each(|word| *word = u64::MAX),
         3 if !buffers.ledger.is_empty() => {
             let at = random.below(buffers.ledger.len());
@@ -177,13 +177,13 @@ fn spoil(check: &mut Check, random: &mut Random, draft: &Draft) {
         4 => {
             // the two totals
             let count = buffers.tally.len();
-            let values = [0, 1, u64::MAX, 1 << 63, (1 << 63) - 1, random.next()];
+            let values = [0, 1, u64::MAX, 1 << 63, (1 << 63) - 1, random.bits()];
             buffers.tally[count - 2] = random.one_of(&values);
             buffers.tally[count - 1] = random.one_of(&values);
         }
         5 => {
             let at = random.below(buffers.tally.len());
-            buffers.tally[at] = random.one_of(&[0, u64::MAX, 1 << 63, random.clone().next()]);
+            buffers.tally[at] = random.one_of(&[0, u64::MAX, 1 << 63, random.clone().bits()]);
         }
         6 => {
             // another valid sheet under the same books
@@ -194,7 +194,7 @@ fn spoil(check: &mut Check, random: &mut Random, draft: &Draft) {
         _ if !buffers.sheet.is_empty() => {
             // a sheet that may not be valid
             let at = random.below(buffers.sheet.len());
-            buffers.sheet[at] = random.one_of(&[0, 1, draft.slots as u8, draft.slots as u8 + 1, 255, random.clone().next() as u8]);
+            buffers.sheet[at] = random.one_of(&[0, 1, draft.slots as u8, draft.slots as u8 + 1, 255, random.clone().bits() as u8]);
         }
         _ => (),
     }

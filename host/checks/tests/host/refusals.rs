@@ -258,9 +258,9 @@ fn damage(random: &mut Random, bytes: &mut Vec<u8>, buffers: &mut Buffers) {
             let at = random.below(6);
             bytes[at] = random.one_of(&[0, 1, 2, 4, 5, 32, 33, 64, 65, 255]);
         }
-        4 | 5 | 6 if !bytes.is_empty() => {
+        4..=6 if !bytes.is_empty() => {
             let at = random.below(bytes.len());
-            bytes[at] = random.next() as u8;
+            bytes[at] = random.bits() as u8;
         }
         7 if bytes.len() > 6 => {
             let at = random.within(6, bytes.len() - 1);

@@ -89,7 +89,7 @@ fn random_inputs() {
         if random.chance(40) {
             for _ in 0..random.within(1, 3) {
                 let at = random.below(input.len());
-                input[at] = random.one_of(&[0, 1, 2, 255, random.clone().next() as u8]);
+                input[at] = random.one_of(&[0, 1, 2, 255, random.clone().bits() as u8]);
             }
         }
         if random.chance(10) {
