@@ -1,0 +1,24 @@
+-- The season's own sentences, then the number of deviations.
+use denote.Ref.{now}
+use native.Mathlib.Omega.{arith}
+use borrow.Author.Needs.{needs}
+use Rattle.report.proofs.Sixth.{one-of-five, too-many, not-too-many}
+use Rattle.report.proofs.examine.Statement.{statement}
+use Rattle.report.proofs.examine.Tie as tie
+
+examine-requires : tie.Need-examine-requires
+examine-requires c κs = search needs
+
+returns : tie.Need-returns
+returns c = one-of-five (now (c .before .before .before .before .args .season)) (c .before .before .examine .ensures) (c .if1 .taken)
+
+returns-2 : tie.Need-returns-2
+returns-2 c =
+    too-many (now (c .before .before .before .before .before .before .args .season)) (c .before .before .before .before .examine .ensures) (c .before .before .if1 .left) (c .if2 .taken)
+
+returns-3 : tie.Need-returns-3
+returns-3 c =
+    not-too-many (now (c .before .before .before .before .before .before .args .season)) (c .before .before .before .before .examine .ensures) (c .before .before .if1 .left) (c .if2 .left)
+
+pub examine-spec : {M : Type 1} → statement M
+examine-spec = tie.close (tie.spec examine-requires returns returns-2 returns-3)
