@@ -30,12 +30,12 @@ orElse zero b = b
 orElse (suc a) b = suc a
 
 -- no sentence has the number 0
-abbrev Numbered : List Sentence → Type 0
+abbrev pub Numbered : List Sentence → Type 0
 Numbered [] = Unit {0}
 Numbered (sentence zero b ∷ l) = ⊥
 Numbered (sentence (suc n) b ∷ l) = Numbered l
 
-first-of-both : (l r : List Sentence) → Numbered l → firstTrue (l ++ r) ≡ orElse (firstTrue l) (firstTrue r)
+pub first-of-both : (l r : List Sentence) → Numbered l → firstTrue (l ++ r) ≡ orElse (firstTrue l) (firstTrue r)
 unfolding firstTrue
 first-of-both [] r h = refl
 first-of-both (sentence zero b ∷ l) r h = absurd h
@@ -52,20 +52,24 @@ pub record Passed (season sheet : List ℕ) (ledger tally : ℕ) : Type 0 where
   pub s7 : sentence7 (decode season) (length sheet) ledger tally ≡ false
   pub s8 : sentence8 (decode season) sheet ≡ false
 
+pub all-passed : (season sheet : List ℕ) (ledger tally : ℕ)
+    → firstTrue (ofSeason season ++ ofBuffers (decode season) sheet ledger tally) ≡ 0 → Passed season sheet ledger tally
+all-passed season sheet ledger tally h =
+    let c = none-true (ofSeason season ++ ofBuffers (decode season) sheet ledger tally) h in
+    record {
+      s1 = c .0;
+      s2 = c .1 .0;
+      s3 = c .1 .1 .0;
+      s4 = c .1 .1 .1 .0;
+      s5 = c .1 .1 .1 .1 .0;
+      s7 = c .1 .1 .1 .1 .1 .0;
+      s8 = c .1 .1 .1 .1 .1 .1 .0;
+    }
+
 module _ (season sheet : List ℕ) (ledger tally : List ℕ) where
   pub passed : openFault season sheet ledger tally ≡ 0 → Passed season sheet (length ledger) (length tally)
   unfolding openFault
-  passed h =
-      let c = none-true (ofSeason season ++ ofBuffers (decode season) sheet (length ledger) (length tally)) h in
-      record {
-        s1 = c .0;
-        s2 = c .1 .0;
-        s3 = c .1 .1 .0;
-        s4 = c .1 .1 .1 .0;
-        s5 = c .1 .1 .1 .1 .0;
-        s7 = c .1 .1 .1 .1 .1 .0;
-        s8 = c .1 .1 .1 .1 .1 .1 .0;
-      }
+  passed h = all-passed season sheet (length ledger) (length tally) h
 
   -- a call's own sentences are read after those of season and buffers
   pub fault-of-call : (k : Call)

@@ -1,0 +1,167 @@
+-- What the numbers of a set or an exchange tell before and after the tables are tried.
+use mathlib.Core.Path.{_≡_, refl, sym, ap, _∙_}
+use mathlib.Core.List.{List, [], _∷_}
+use mathlib.Core.Bool.{Bool, true, false, not, _||_}
+use Prim.Native.Nat.{ℕ, zero, suc, _+_, _-_, _<_, _≤_}
+use native.Mathlib.Omega.{arith}
+use lib.Dec.{eqb}
+use lib.ListN.{length, getD, set, length-set}
+use lib.Seq.{getD-set-other}
+use mathlib.Core.Logic.{_⊎_, inl, inr}
+use mathlib.Core.Bool.{or-true}
+use borrow.Author.Tests.{lt-leb, le-leb, le-ltb, lt-ltb, eq-eqb, ne-eqb, not-true, not-false}
+use Rattle.robinx.specs.Sums.{only, sumTo}
+use Rattle.robinx.specs.Season.{Instance, decode}
+use Rattle.robinx.specs.Timetable.{clash}
+use Rattle.robinx.specs.Refusals.{firstTrue, sentence9, sentence10, sentence11, sentence12, sentence13}
+use Rattle.robinx.specs.Calls.{Call, moved, touched, reworked, unlessRefused, outcome}
+use Rattle.robinx.specs.declared.Reply.{Reply}
+use Rattle.robinx.specs.declared.Season.{Season}
+use Rattle.robinx.specs.PlainSheet.{plainFault}
+use Rattle.robinx.proofs.Sums.{or-no, term-le-sum}
+use Rattle.robinx.proofs.Passed.{Passed}
+use Rattle.robinx.proofs.Accepted.{length-moved, opens-again, low}
+use Rattle.robinx.proofs.Limits.{decode-home, decode-away}
+use Rattle.season.specs.Sizes.{sizesOf, Measured}
+use Rattle.season.proofs.Found.{measured}
+use Rattle.timetable.specs.Tables.{xOf, InRange, Fits, unplaced}
+use Rattle.timetable.proofs.Fewer.{in-range-32}
+use Rattle.timetable.proofs.FirstGames.{unplaced-set, unplaced-low}
+use Rattle.books.specs.Walk.{Given}
+use Rattle.checker.specs.Admission.{Ready}
+use Rattle.checker.specs.Answer.{Answered}
+use Rattle.checker.proofs.Shown.{is-sound, whole, range, tied, same-deviations}
+use Rattle.checker.proofs.Outcomes.{ready-passed, reworked-is}
+
+-- the sheet after an accepted call passes sentences 1 to 8 too
+pub passes-again : (s sheet : List ℕ) (L T : ℕ) (k : Call) → Passed s sheet L T → plainFault (decode s) sheet k ≡ 0 → Passed s (moved sheet k) L T
+passes-again s sheet L T k p e = record {
+  s1 = p .s1;
+  s2 = p .s2;
+  s3 = p .s3;
+  s4 = p .s4;
+  s5 = p .s5;
+  s7 = rw (length-moved sheet k) (p .s7);
+  s8 = opens-again (decode s) sheet (whole s sheet L T p .0) (p .s8) k e;
+}
+
+-- a call that passed sentences 1 to 8 may try its tables
+module _ {s sheet home away meets : List ℕ} {L T u : ℕ} (r : Ready s sheet L T u home away meets) where
+  pub range-32 : InRange 32 (decode s .home) (decode s .away) sheet
+  range-32 = in-range-32 (range s sheet L T (ready-passed r))
+
+  pub as-many-games : length (decode s .home) ≡ decode s .G
+  as-many-games = decode-home s (ready-passed r .s3)
+
+  pub as-many-guests : length (decode s .away) ≡ decode s .G
+  as-many-guests = decode-away s (ready-passed r .s3)
+
+  pub as-many-slots : length sheet ≡ decode s .G
+  as-many-slots = whole s sheet L T (ready-passed r) .0
+
+  pub is-measured : {z : Season} → z ≡ sizesOf s → Measured s z
+  is-measured e = measured s e (ready-passed r .s3)
+
+  pub few-slots : decode s .P ≤ 64
+  few-slots = is-sound s sheet L T (ready-passed r) .slots
+
+  pub few-games : decode s .G ≤ 1024
+  few-games = is-sound s sheet L T (ready-passed r) .games
+
+  -- a game that has no slot is among the unplaced ones
+  pub counted : {g : ℕ} → g < decode s .G → only (eqb (getD sheet g 0) 0) 1 ≤ u
+  counted {g} l = omega (arith, r .count, term-le-sum (λ h. only (eqb (getD sheet h 0) 0) 1) g (decode s .G) l)
+
+  pub few-unplaced : u ≤ 1024
+  few-unplaced = omega (arith, r .count, unplaced-low sheet (decode s .G), few-games)
+
+  pub possible-team : {g : ℕ} → g < decode s .G → (getD (decode s .home) g 0 < 32) × (getD (decode s .away) g 0 < 32)
+  possible-team {g} l =
+      let w = range-32 .teams in
+      (w .home-below g (omega (arith, as-many-games)), w .away-below g (omega (arith, as-many-games)))
+
+  pub slot-possible : {g : ℕ} → g < decode s .G → getD sheet g 0 ≤ 64
+  slot-possible {g} l = range-32 .slot-low g (omega (arith, as-many-games))
+
+-- an accepted call: the tables are those of the sheet after it
+module _ {s sheet home away meets home′ away′ meets′ : List ℕ} (ledger tally : List ℕ) {u : ℕ} (k : Call)
+    (r : Ready s sheet (length ledger) (length tally) u home away meets) (e : plainFault (decode s) sheet k ≡ 0)
+    (f : Fits 32 true home′ away′ meets′ (decode s .home) (decode s .away) (moved sheet k)) where
+  again : Passed s (moved sheet k) (length ledger) (length tally)
+  again = passes-again s sheet (length ledger) (length tally) k (ready-passed r) e
+
+  pub given-after : {z : Season} → z ≡ sizesOf s → Given s z home′ away′ meets′ ledger tally
+  given-after ez = record {
+    measured = measured s ez (again .s3);
+    sizes = again .s2;
+    rules = again .s5;
+    tied = tied s (moved sheet k) (length ledger) (length tally) again f;
+    ledger-length = whole s (moved sheet k) (length ledger) (length tally) again .1;
+    tally-length = whole s (moved sheet k) (length ledger) (length tally) again .2;
+  }
+
+  pub call-is : {t : ℕ → Bool} {u′ : ℕ} {ledger′ tally′ : List ℕ} {a : Reply} → Answered (decode s) t (xOf meets′) u′ ledger tally ledger′ tally′ a
+      → t ≡ touched (decode s) sheet k → u′ ≡ unplaced (moved sheet k) (decode s .G)
+      → outcome a (moved sheet k) ledger′ tally′
+      ≡ unlessRefused (plainFault (decode s) sheet k) (reworked (decode s) sheet ledger tally k) sheet ledger tally
+  call-is w et eu = rw e (reworked-is sheet k w et (same-deviations s (moved sheet k) (length ledger) (length tally) again f) eu)
+
+module _ (m : Instance) (sheet : List ℕ) (g b : ℕ) where
+  pub set-fault-9 : m .G ≤ g → plainFault m sheet (Call.setSlot g b) ≡ 9
+  unfolding plainFault firstTrue sentence9
+  set-fault-9 h = rw (le-leb (m .G) g h)
+
+  module _ (lg : g < m .G) where
+    pub set-fault-10 : m .P < b → plainFault m sheet (Call.setSlot g b) ≡ 10
+    unfolding plainFault firstTrue sentence9 sentence10
+    set-fault-10 h = rw (lt-leb (m .G) g lg, lt-ltb (m .P) b h)
+
+    module _ (lb : b ≤ m .P) where
+      pub set-fault-13 : clash (m .home) (m .away) (set sheet g b) ≡ true → plainFault m sheet (Call.setSlot g b) ≡ 13
+      unfolding plainFault firstTrue sentence9 sentence10 sentence13 moved
+      set-fault-13 h = rw (lt-leb (m .G) g lg, le-ltb (m .P) b lb, h)
+
+      pub set-no-fault : clash (m .home) (m .away) (set sheet g b) ≡ false → plainFault m sheet (Call.setSlot g b) ≡ 0
+      unfolding plainFault firstTrue sentence9 sentence10 sentence13 moved
+      set-no-fault h = rw (lt-leb (m .G) g lg, le-ltb (m .P) b lb, h)
+
+module _ (m : Instance) (sheet : List ℕ) (g h : ℕ) where
+  pub exchange-fault-9 : (m .G ≤ g) ⊎ (m .G ≤ h) → plainFault m sheet (Call.exchange g h) ≡ 9
+  unfolding plainFault firstTrue sentence9
+  exchange-fault-9 (inl e) = rw (le-leb (m .G) g e)
+  exchange-fault-9 (inr e) = rw (le-leb (m .G) h e, or-true)
+
+  module _ (lg : g < m .G) (lh : h < m .G) where
+    pub exchange-fault-11 : g ≡ h → plainFault m sheet (Call.exchange g h) ≡ 11
+    unfolding plainFault firstTrue sentence9 sentence11
+    exchange-fault-11 e = rw (lt-leb (m .G) g lg, lt-leb (m .G) h lh, eq-eqb g h e)
+
+    module _ (differ : g ≡ h → ⊥) where
+      pub exchange-fault-12 : eqb (getD sheet g 0) 0 || eqb (getD sheet h 0) 0 ≡ true → plainFault m sheet (Call.exchange g h) ≡ 12
+      unfolding plainFault firstTrue sentence9 sentence11 sentence12
+      exchange-fault-12 e = rw (lt-leb (m .G) g lg, lt-leb (m .G) h lh, ne-eqb g h differ, e)
+
+      module _ (placed : eqb (getD sheet g 0) 0 || eqb (getD sheet h 0) 0 ≡ false) where
+        pub exchange-fault-13 : clash (m .home) (m .away) (moved sheet (Call.exchange g h)) ≡ true → plainFault m sheet (Call.exchange g h) ≡ 13
+        unfolding plainFault firstTrue sentence9 sentence11 sentence12 sentence13
+        exchange-fault-13 e = rw (lt-leb (m .G) g lg, lt-leb (m .G) h lh, ne-eqb g h differ, placed, e)
+
+        pub exchange-no-fault : clash (m .home) (m .away) (moved sheet (Call.exchange g h)) ≡ false → plainFault m sheet (Call.exchange g h) ≡ 0
+        unfolding plainFault firstTrue sentence9 sentence11 sentence12 sentence13
+        exchange-no-fault e = rw (lt-leb (m .G) g lg, lt-leb (m .G) h lh, ne-eqb g h differ, placed, e)
+
+-- the count of unplaced games after a set
+pub unplaced-after-set : (sheet : List ℕ) (g b G : ℕ) {u left from to : ℕ} → g < G → length sheet ≡ G → u ≡ unplaced sheet G
+    → from ≡ only (eqb (getD sheet g 0) 0) 1 → to ≡ only (eqb b 0) 1 → left ≡ u - from + to → left ≡ unplaced (set sheet g b) G
+unplaced-after-set sheet g b G l e eu ef et el =
+    omega (arith, unplaced-set sheet g b G l (omega arith), term-le-sum (λ h. only (eqb (getD sheet h 0) 0) 1) g G l)
+
+-- .. and after an exchange of two placed games: the same
+pub unplaced-after-exchange : (sheet : List ℕ) (g h G : ℕ) {u : ℕ} → g < G → h < G → (g ≡ h → ⊥) → length sheet ≡ G → u ≡ unplaced sheet G
+    → eqb (getD sheet g 0) 0 || eqb (getD sheet h 0) 0 ≡ false → u ≡ unplaced (set (set sheet g (getD sheet h 0)) h (getD sheet g 0)) G
+unplaced-after-exchange sheet g h G lg lh differ e eu placed =
+    let o = or-no (eqb (getD sheet g 0) 0) (eqb (getD sheet h 0) 0) placed in
+    let first = rw (o .0, o .1) at (unplaced-set sheet g (getD sheet h 0) G lg (omega arith)) in
+    let second = rw (getD-set-other sheet g h (getD sheet h 0) 0 (λ q. differ (sym q)), o .0, o .1)
+    at (unplaced-set (set sheet g (getD sheet h 0)) h (getD sheet g 0) G lh (rw length-set (omega arith))) in
+    omega (arith, first, second)

@@ -1,0 +1,5 @@
+pub mod Entry
+pub mod Shown
+pub mod Outcomes
+pub mod Accept
+pub mod Exported

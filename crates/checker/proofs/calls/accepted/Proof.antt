@@ -1,0 +1,26 @@
+-- A signed field is read back from its bits. Assumes nothing.
+use mir.Syntax.{w64}
+use mir.ValLaws.{ofZ-toZ}
+use borrow.Author.Needs.{needs}
+use Rattle.checker.proofs.calls.accepted.Statement.{statement}
+use Rattle.checker.proofs.calls.accepted.Tie as tie
+use Rattle.checker.proofs.calls.accepted.Reads as reads
+use Rattle.checker.proofs.calls.accepted.Lts as lts
+use Rattle.books.proofs.totals.signed.Reads as signed-reads
+
+-- src/calls.rt:78:24
+signed-requires : tie.Need-signed-requires
+signed-requires c κs = search needs
+
+-- src/calls.rt:79:20
+signed-requires-2 : tie.Need-signed-requires-2
+signed-requires-2 c κs = search needs
+
+-- src/calls.rt:72:1
+returns : tie.Need-returns
+returns c =
+    let a = c .before .before in
+    rw (c .before .signed .ensures, c .signed2 .ensures, ofZ-toZ w64 (a .args .hard) (a .fits .hard), ofZ-toZ w64 (a .args .soft) (a .fits .soft))
+
+pub accepted-spec : {M : Type 1} → statement M
+accepted-spec = tie.close (tie.spec signed-requires signed-requires-2 returns)

@@ -1,0 +1,129 @@
+// The three calls of the console. Each meets its definition for every input; a declined call writes nothing.
+pub mod admission;
+pub mod calls;
+
+ghost use mathlib.Core.Path.{_≡_};
+ghost use Rattle.robinx.specs.Calls.{outcome, openCall, setCall, exchangeCall};
+use robinx::Reply;
+
+// Checks a proposed sheet and fills ledger and tally.
+#[no_mangle]
+pub extern "C" fn season_open(
+    season: &[u8],
+    sheet: &[u8],
+    ledger: &mut [u32],
+    tally: &mut [u64],
+) -> Reply
+    ensures { λ r. ⌜ outcome r (now (sheet .entry)) (now (ledger .exit)) (now (tally .exit))
+        ≡ openCall (now (season .entry)) (now (sheet .entry)) (now (ledger .entry)) (now (tally .entry)) ⌝ }
+{
+    let mut home = [0u64; 32];
+    let mut away = [0u64; 32];
+    let mut meets = [0u64; 1024];
+    let a = admission::admit(
+        season,
+        sheet,
+        ledger.len(),
+        tally.len(),
+        &mut home,
+        &mut away,
+        &mut meets,
+    );
+    if a.fault != 0 {
+        return calls::declined(a.fault);
+    }
+    calls::open(
+        season,
+        sheet,
+        a.unplaced,
+        &home,
+        &away,
+        &meets,
+        ledger,
+        tally,
+    )
+}
+
+// Gives a game a slot; slot 0 takes it out.
+#[no_mangle]
+pub extern "C" fn season_set(
+    season: &[u8],
+    sheet: &mut [u8],
+    ledger: &mut [u32],
+    tally: &mut [u64],
+    game: u64,
+    slot: u64,
+) -> Reply
+    ensures { λ r. ⌜ outcome r (now (sheet .exit)) (now (ledger .exit)) (now (tally .exit))
+        ≡ setCall (now (season .entry)) (now (sheet .entry)) (now (ledger .entry)) (now (tally .entry)) game slot ⌝ }
+{
+    let mut home = [0u64; 32];
+    let mut away = [0u64; 32];
+    let mut meets = [0u64; 1024];
+    let a = admission::admit(
+        season,
+        &*sheet,
+        ledger.len(),
+        tally.len(),
+        &mut home,
+        &mut away,
+        &mut meets,
+    );
+    if a.fault != 0 {
+        return calls::declined(a.fault);
+    }
+    calls::set(
+        season,
+        sheet,
+        a.unplaced,
+        &mut home,
+        &mut away,
+        &mut meets,
+        ledger,
+        tally,
+        game,
+        slot,
+    )
+}
+
+// Exchanges the slots of two placed games.
+#[no_mangle]
+pub extern "C" fn season_exchange(
+    season: &[u8],
+    sheet: &mut [u8],
+    ledger: &mut [u32],
+    tally: &mut [u64],
+    game: u64,
+    other: u64,
+) -> Reply
+    ensures { λ r. ⌜ outcome r (now (sheet .exit)) (now (ledger .exit)) (now (tally .exit))
+        ≡ exchangeCall (now (season .entry)) (now (sheet .entry)) (now (ledger .entry)) (now (tally .entry)) game other ⌝ }
+{
+    let mut home = [0u64; 32];
+    let mut away = [0u64; 32];
+    let mut meets = [0u64; 1024];
+    let a = admission::admit(
+        season,
+        &*sheet,
+        ledger.len(),
+        tally.len(),
+        &mut home,
+        &mut away,
+        &mut meets,
+    );
+    if a.fault != 0 {
+        return calls::declined(a.fault);
+    }
+    calls::exchange(
+        season,
+        sheet,
+        a.unplaced,
+        &mut home,
+        &mut away,
+        &mut meets,
+        ledger,
+        tally,
+        game,
+        other,
+    )
+}

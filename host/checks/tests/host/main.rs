@@ -1,0 +1,10 @@
+//! The proved library, linked as C, against an independent checker and against figures worked out by hand.
+
+mod every_call;
+mod lists;
+mod named;
+mod refusals;
+mod report;
+mod samples;
+mod table1;
+mod text;

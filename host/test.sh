@@ -1,0 +1,109 @@
+#!/bin/sh
+# The tests of what the proof does not cover: the compiled library behind its C interface against an independent checker, the header,
+# the installed files, the example, the text form. Needs make, cargo, cc; uses a C++ compiler, pkg-config and valgrind where there are any.
+#
+#   host/test.sh          or: make host-test
+#   HOST_TIMES=10 ..      ten times as many random seasons
+#   HOST_SEED=N ..        another seed for all of them
+set -eu
+cd "$(dirname "$0")/.."
+root=$(pwd)
+work=$root/target/host
+export CARGO_TARGET_DIR=$root/target/cargo
+CC=${CC:-cc}
+mkdir -p "$work"
+command -v cargo > /dev/null || PATH=$PATH:$HOME/.cargo/bin
+
+step() { printf '== %s\n' "$*"; }
+has() {
+    command -v "$1" >/dev/null 2>&1 && return
+    printf '   %s is not installed: left out\n' "$1"
+    return 1
+}
+started=$(date +%s)
+
+step library, example, text tool
+make -s all console text
+
+step header as C and as C++
+for standard in c99 c11 c17; do
+    $CC -std=$standard -Wall -Wextra -Wpedantic -Werror -Iinclude host/c/header.c target/libseason_checker.a -o "$work/header"
+    "$work/header"
+done
+if has "${CXX:-c++}"; then
+    for standard in c++11 c++20; do
+        ${CXX:-c++} -std=$standard -Wall -Wextra -Wpedantic -Werror -Iinclude -x c++ host/c/header.c -x none \
+            target/libseason_checker.a -o "$work/header"
+        "$work/header"
+    done
+fi
+
+step example
+target/console < examples/season-a.moves > "$work/console.out"
+cmp examples/season-a.console "$work/console.out"
+# the same moves on the command line
+target/console $(sed 's/#.*//' examples/season-a.moves) | cmp examples/season-a.console -
+for wrong in 'set 0' 'move 0 1' 'set 0 -1' 'set 0 1x' 'set 0 18446744073709551616' 'set 0 1 2'; do
+    if echo "$wrong" | target/console > "$work/console.out" 2>&1; then
+        echo "console takes '$wrong' for a move" && exit 1
+    fi
+    grep -q 'line 1: a move is' "$work/console.out"
+done
+head -c 113 examples/season-a.bin > "$work/cut.bin"
+if target/console "$work/cut.bin" set 0 0 > "$work/console.out"; then exit 1; fi
+grep -q 'refused 3' "$work/console.out"
+
+step installed files
+rm -rf "$work/prefix"
+make -s install PREFIX="$work/prefix"
+if has pkg-config; then
+    flags=$(PKG_CONFIG_PATH=$work/prefix/lib/pkgconfig pkg-config --cflags --libs season_checker)
+else
+    flags="-I$work/prefix/include -L$work/prefix/lib -lseason_checker"
+fi
+$CC -Wall -Wextra -Werror examples/console.c $flags -o "$work/console"
+"$work/console" < examples/season-a.moves | cmp examples/season-a.console -
+
+step text form of the examples
+for name in season-a league18 largest32 mixed32; do
+    target/season-text encode examples/$name.txt "$work/$name.bin" 2> /dev/null
+    target/season-text decode "$work/$name.bin" | cmp - examples/$name.txt
+done
+(cd "$work" && sha256sum --check --quiet "$root/examples/SHA256SUMS")
+target/season-text encode examples/season-a.txt "$work/a.season" "$work/a.sheet"
+cat "$work/a.season" "$work/a.sheet" | cmp - examples/season-a.bin
+printf 'teams 4\nslots 3\ngame 0 9 1\n' > "$work/wrong.txt"
+if target/season-text encode "$work/wrong.txt" > /dev/null 2> "$work/wrong.out"; then exit 1; fi
+grep -q "wrong.txt:3: '9' is not a team" "$work/wrong.out"
+
+step Rust tests
+cargo test --offline --quiet --profile checked --manifest-path host/Cargo.toml --package checks --test host -- --nocapture
+
+step C, buffers at the ends of pages
+cargo build --offline --quiet --profile checked --manifest-path host/Cargo.toml --package checks
+"$CARGO_TARGET_DIR/checked/record" "$work/cases"
+$CC -std=c99 -O1 -g -Wall -Wextra -Wpedantic -Werror -Iinclude host/c/replay.c target/libseason_checker.a -o "$work/replay"
+"$work/replay" "$work/cases" end
+"$work/replay" "$work/cases" start
+
+step C under memory checkers
+if echo 'int main(void) { return 0; }' | $CC -fsanitize=address,undefined -x c - -o "$work/sanitized" 2> /dev/null; then
+    for part in host/c/replay.c examples/console.c; do
+        $CC -std=c99 -O1 -g -fsanitize=address,undefined -fno-sanitize-recover=all -Iinclude $part target/libseason_checker.a \
+            -o "$work/sanitized"
+        case $part in
+        *replay.c) "$work/sanitized" "$work/cases" end && "$work/sanitized" "$work/cases" heap ;;
+        *) "$work/sanitized" < examples/season-a.moves | cmp examples/season-a.console - ;;
+        esac
+    done
+else
+    echo '   the C compiler has no AddressSanitizer: left out'
+fi
+if has valgrind; then
+    valgrind --quiet --error-exitcode=9 "$work/replay" "$work/cases" end 100
+    valgrind --quiet --error-exitcode=9 "$work/replay" "$work/cases" heap 150
+    valgrind --quiet --error-exitcode=9 --leak-check=full target/console < examples/season-a.moves > "$work/console.out"
+    cmp examples/season-a.console "$work/console.out"
+fi
+
+printf 'host tests: all passed in %d s\n' $(($(date +%s) - started))
