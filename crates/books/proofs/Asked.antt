@@ -5,7 +5,7 @@ use Prim.Native.Nat.{ℕ, zero, suc, _-_}
 use native.Mathlib.Omega.{arith}
 use lib.Dec.{eqb}
 use borrow.Author.Tests.{eq-eqb, ne-eqb}
-use Rattle.robinx.specs.Groups.{has, reaches}
+use Rattle.robinx.specs.Groups.{has}
 use Rattle.robinx.specs.Kinds.{Kind, kindOf}
 use Rattle.robinx.specs.Touch.{across, scopeOf, scope, hits, touches}
 use Rattle.robinx.specs.declared.Constraint.{Constraint}

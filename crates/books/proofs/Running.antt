@@ -1,16 +1,14 @@
 -- Running totals, hard and soft at once, and their change. Assumes nothing.
-use mathlib.Core.Path.{_≡_, refl, sym, ap, _∙_}
+use mathlib.Core.Path.{_≡_, refl, _∙_}
 use mathlib.Core.List.{List}
 use mathlib.Core.Bool.{Bool, true, false, _&&_}
 use Prim.Native.Nat.{ℕ, zero, suc, _+_, _-_, _%_, _^_}
 use native.Mathlib.Nat.{zero-add, add-zero, mod-add-mod}
-use native.Mathlib.Omega.{arith}
-use lib.IntN.{ℤ, pos, negsuc, _-ℤ_}
-use lib.ListN.{getD}
+use lib.IntN.{pos, negsuc, _-ℤ_}
 use Rattle.robinx.specs.Sums.{sumTo, only}
 use Rattle.robinx.specs.Season.{Instance}
 use Rattle.robinx.specs.Timetable.{X}
-use Rattle.robinx.specs.Books.{penaltyAt, isHard, isSoft}
+use Rattle.robinx.specs.Books.{isHard, isSoft}
 use Rattle.robinx.specs.Calls.{gained, lost, change}
 use Rattle.robinx.specs.declared.Constraint.{Constraint}
 use Rattle.robinx.specs.declared.Totals.{Totals}

@@ -1,24 +1,23 @@
 -- The books after the first k constraints of a walk that reworks the touched ones and keeps the others; opening is the walk in which
 -- all are touched. Assumes a ledger and a tally of the season's lengths.
-use mathlib.Core.Path.{_≡_, refl, sym, ap, _∙_}
-use mathlib.Core.List.{List, [], _∷_, _++_}
-use mathlib.Core.Bool.{Bool, true, false, cond}
-use Prim.Native.Nat.{ℕ, zero, suc, _+_, _-_, _<_, _≤_}
+use mathlib.Core.Path.{_≡_}
+use mathlib.Core.List.{List, _++_}
+use mathlib.Core.Bool.{Bool, true, false}
+use Prim.Native.Nat.{ℕ, _+_, _-_, _<_, _≤_}
 use native.Mathlib.Omega.{arith}
 use lib.ListN.{length, getD, set, take, drop}
-use Rattle.robinx.specs.Sums.{sumTo, catTo, listTo}
+use Rattle.robinx.specs.Sums.{sumTo}
 use Rattle.robinx.specs.Season.{Instance}
 use Rattle.robinx.specs.Timetable.{X}
 use Rattle.robinx.specs.Books.{deviationsAt, penaltyAt, entriesAt, startAt, allEntries}
 use Rattle.robinx.specs.Calls.{stretchAt, reworkedStretch, reworkedPenalty, gained, lost}
-use Rattle.robinx.specs.declared.Constraint.{Constraint}
 use Rattle.robinx.specs.declared.Totals.{Totals}
 use Rattle.robinx.proofs.Lengths.{length-deviations}
 use Rattle.books.specs.Running.{Holds, Adds}
 use Rattle.books.specs.Walk.{Reworked}
 use Rattle.books.specs.declared.walk.Moved.{Moved}
 use Rattle.books.proofs.Running.{gathered, holds-more, holds-same, gathered-more, gathered-same}
-use Rattle.books.proofs.Laid.{Laid, laid-none, laid-rest, laid-fits, laid-more, laid-kept, laid-done, Listed, listed-old, listed-more, listed-kept}
+use Rattle.books.proofs.Laid.{Laid, laid-none, laid-fits, laid-more, laid-kept, laid-done, Listed, listed-old, listed-more, listed-kept}
 
 module _ (m : Instance) (t : ℕ → Bool) (x : X) (ledger₀ tally₀ : List ℕ) where
   pub record Walked (k at : ℕ) (ledger tally : List ℕ) (got gone : Totals) : Type 0 where

@@ -1,5 +1,4 @@
 -- What touches a constraint, in two parts: what its kind asks of the teams of a game, and what of a slot.
-use mathlib.Core.Path.{_≡_}
 use mathlib.Core.Bool.{Bool, true, false, _&&_, _||_}
 use Prim.Native.Nat.{ℕ, zero, suc, _<_, _≤_}
 use Rattle.robinx.specs.Groups.{has, reaches}

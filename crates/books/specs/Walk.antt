@@ -15,7 +15,7 @@ use Rattle.robinx.specs.declared.Season.{Season}
 use Rattle.robinx.specs.declared.Totals.{Totals}
 use Rattle.season.specs.Sizes.{Measured}
 use Rattle.timetable.specs.Tables.{Tied}
-use Rattle.books.specs.Touched.{Possible, touchedBy}
+use Rattle.books.specs.Touched.{touchedBy}
 use Rattle.books.specs.Running.{Holds}
 use Rattle.books.specs.declared.touch.Move.{Move}
 use Rattle.books.specs.declared.walk.Touch.{Touch}

@@ -4,8 +4,8 @@ pub mod touch;
 pub mod walk;
 
 ghost use mathlib.Core.Path.{_≡_};
-ghost use Prim.Native.Nat.{ℕ, _+_, _-_, _%_, _^_};
-ghost use lib.ListN.{length, getD, set};
+ghost use Prim.Native.Nat.{_+_, _-_, _%_, _^_};
+ghost use lib.ListN.{length, getD};
 ghost use Rattle.robinx.specs.Season.{decode};
 ghost use Rattle.robinx.specs.Calls.{movedTotal};
 ghost use Rattle.timetable.specs.Tables.{xOf};

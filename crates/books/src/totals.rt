@@ -1,7 +1,7 @@
 // Running totals modulo 2^64, their change, and a change read as a signed number.
 ghost use mathlib.Core.Path.{_≡_};
 ghost use mathlib.Core.Bool.{not};
-ghost use Prim.Native.Nat.{ℕ, _+_, _-_, _%_, _^_};
+ghost use Prim.Native.Nat.{_+_, _-_, _%_, _^_};
 ghost use lib.Dec.{eqb};
 ghost use mir.Syntax.{w64};
 ghost use mir.Val.{toZ};

@@ -1,7 +1,7 @@
 // Which constraints the change of a game's slot touches. Each kind asks one thing of the two teams and one of the slots.
 ghost use mathlib.Core.Path.{_≡_};
 ghost use mathlib.Core.Bool.{_||_};
-ghost use Prim.Native.Nat.{ℕ, _<_, _≤_};
+ghost use Prim.Native.Nat.{_<_, _≤_};
 ghost use Rattle.robinx.specs.Groups.{has, reaches};
 ghost use Rattle.robinx.specs.Touch.{across};
 ghost use Rattle.books.specs.Touched.{teamsAsked, atSlot, slotAsked, Possible, touchedBy};

@@ -1,6 +1,6 @@
 // The walk over a season's constraints. It lends out the stretch of each touched one, and writes nothing for the others.
 ghost use mathlib.Core.Path.{_≡_};
-ghost use Prim.Native.Nat.{ℕ, _+_, _<_, _%_, _^_};
+ghost use Prim.Native.Nat.{_+_, _<_};
 ghost use lib.ListN.{length, getD, set};
 ghost use Rattle.robinx.specs.Season.{decode};
 ghost use Rattle.robinx.specs.Deviations.{deviations};

@@ -1,5 +1,5 @@
 -- From 2^63 on a number stands for itself less 2^64.
-use Prim.Native.Nat.{ℕ, suc, _<_, _-_, _^_}
+use Prim.Native.Nat.{suc, _<_, _-_, _^_}
 use mathlib.Core.Path.{_≡_}
 use native.Mathlib.Omega.{arith}
 use borrow.Author.Tests.{lt-ltb}
