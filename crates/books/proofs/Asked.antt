@@ -1,11 +1,13 @@
 -- A change touches a constraint where its teams are such as the kind asks, and one of its slots is. Assumes nothing.
 use mathlib.Core.Path.{_≡_, refl, sym, ap, ap₂, _∙_}
-use mathlib.Core.Bool.{Bool, true, false, _&&_, _||_, not, cond, and-true, and-false}
-use Prim.Native.Nat.{ℕ, zero, suc, _-_}
+use mathlib.Core.Bool.{Bool, true, false, _&&_, _||_, not, and-true, and-false}
+use mathlib.Core.Logic.{⊎-elim}
+use Prim.Native.Nat.{ℕ, zero, suc, _+_, _-_, _<_, _≤_}
+use native.Mathlib.Nat.{eq-or-lt-of-le}
 use native.Mathlib.Omega.{arith}
 use lib.Dec.{eqb}
-use borrow.Author.Tests.{eq-eqb, ne-eqb}
-use Rattle.robinx.specs.Groups.{has}
+use borrow.Author.Tests.{eq-eqb}
+use Rattle.robinx.specs.Groups.{has, reaches}
 use Rattle.robinx.specs.Kinds.{Kind, kindOf}
 use Rattle.robinx.specs.Touch.{across, scopeOf, scope, hits, touches}
 use Rattle.robinx.specs.declared.Constraint.{Constraint}
@@ -81,24 +83,41 @@ one-some zero zero h = absurd (h refl)
 one-some zero (suc b) h = refl
 one-some (suc a) b h = refl
 
--- the kinds that ask for a slot of S itself
-pub record Plain (k : ℕ) : Type 0 where
-  pub ca3 : k ≡ 13 → ⊥
-  pub br1 : k ≡ 31 → ⊥
-  pub br2 : k ≡ 32 → ⊥
-  pub fa1 : k ≡ 41 → ⊥
-  pub fa2 : k ≡ 42 → ⊥
-  pub se1 : k ≡ 51 → ⊥
+-- what two numbers that follow each other share
+two : {B : Type 0} (f : ℕ → B) (a k : ℕ) → a ≤ k → k < a + 2 → f a ≡ f (suc a) → f k ≡ f a
+two f a k l h same =
+    ⊎-elim (λ e. ap f (sym e)) (λ m. let e : k ≡ suc a = omega arith in ap f e ∙ sym same) (eq-or-lt-of-le l)
 
-pub plain-slot : (k s : ℕ) → Plain k → slotAskedOf (kindOf k) s ≡ has s
-unfolding kindOf
-plain-slot k s p =
-    rw (ne-eqb k 13 (p .ca3), ne-eqb k 31 (p .br1), ne-eqb k 32 (p .br2), ne-eqb k 41 (p .fa1), ne-eqb k 42 (p .fa2), ne-eqb k 51 (p .se1))
-    (go (eqb k 11) (eqb k 12) (eqb k 14) (eqb k 21))
-  where
-    go : (a b c d : Bool) → slotAskedOf (cond a Kind.CA1 (cond b Kind.CA2 (cond c Kind.CA4 (cond d Kind.GA1 Kind.unknown)))) s ≡ has s
-    go true b c d = refl
-    go false true c d = refl
-    go false false true d = refl
-    go false false false true = refl
-    go false false false false = refl
+-- the kinds of a class that ask the same of the teams
+module _ (c : Constraint) (i j : ℕ) where
+  abbrev teams : ℕ → Bool
+  teams k = teamsAskedOf (kindOf k) c i j
+
+  pub capacity-teams : (k : ℕ) → 11 ≤ k → k ≤ 14 → (k ≡ 11 → ⊥) → teams k ≡ across c i j
+  unfolding kindOf
+  capacity-teams k l h other = ⊎-elim (λ e. rw e) (λ m. two teams 12 k (omega arith) m refl) (eq-or-lt-of-le h)
+
+  pub break-teams : (k : ℕ) → 31 ≤ k → k ≤ 32 → teams k ≡ has (c .t1) i || has (c .t1) j
+  unfolding kindOf
+  break-teams k l h = two teams 31 k l (omega arith) refl
+
+  pub fairness-teams : (k : ℕ) → 41 ≤ k → k ≤ 42 → teams k ≡ has (c .t1) i && has (c .t1) j
+  unfolding kindOf
+  fairness-teams k l h = two teams 41 k l (omega arith) refl
+
+-- .. and of a slot
+module _ (s : ℕ) where
+  abbrev slot : ℕ → ℕ → Bool
+  slot k = slotAskedOf (kindOf k) s
+
+  pub capacity-slots : (k : ℕ) → 11 ≤ k → k ≤ 14 → (k ≡ 13 → ⊥) → slot k ≡ has s
+  unfolding kindOf
+  capacity-slots k l h other = ⊎-elim (λ e. rw e) (λ m. two slot 11 k l (omega arith) refl) (eq-or-lt-of-le h)
+
+  pub break-slots : (k : ℕ) → 31 ≤ k → k ≤ 32 → slot k ≡ reaches s
+  unfolding kindOf
+  break-slots k l h = two slot 31 k l (omega arith) refl
+
+  pub fairness-slots : (k : ℕ) → 41 ≤ k → k ≤ 42 → slot k ≡ reaches s
+  unfolding kindOf
+  fairness-slots k l h = two slot 41 k l (omega arith) refl

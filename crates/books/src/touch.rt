@@ -1,6 +1,6 @@
 // Which constraints the change of a game's slot touches. Each kind asks one thing of the two teams and one of the slots.
 ghost use mathlib.Core.Path.{_≡_};
-ghost use mathlib.Core.Bool.{_||_};
+ghost use mathlib.Core.Bool.{true, _||_};
 ghost use Prim.Native.Nat.{_<_, _≤_};
 ghost use Rattle.robinx.specs.Groups.{has, reaches};
 ghost use Rattle.robinx.specs.Touch.{across};
@@ -31,7 +31,19 @@ fn across(c: Constraint, i: u8, j: u8) -> bool
     (in_group(c.t1, i) & in_group(c.t2, j)) | (in_group(c.t1, j) & in_group(c.t2, i))
 }
 
-// The teams are such as the kind asks. Every kind asks for one of T1, and most constraints stop at that.
+// Capacity: CA1 asks for no more than a team of T1, the other kinds for one of T2 as its opponent.
+fn capacity_teams(c: Constraint, i: u8, j: u8) -> bool
+    requires { ⌜ (i < 32) × (j < 32) × (11 ≤ c .kind) × (c .kind ≤ 14) × (has (c .t1) i || has (c .t1) j ≡ true) ⌝ }
+    ensures { λ r. ⌜ r ≡ teamsAsked c i j ⌝ }
+{
+    if c.kind == 11 {
+        return true;
+    }
+    across(c, i, j)
+}
+
+// The teams are such as the kind asks. Every kind asks for one of T1, and most constraints stop at that. The kinds of a class ask the
+// same, but for capacity.
 fn teams_asked(c: Constraint, i: u8, j: u8) -> bool
     requires { ⌜ (i < 32) × (j < 32) ⌝ }
     ensures { λ r. ⌜ r ≡ teamsAsked c i j ⌝ }
@@ -43,15 +55,10 @@ fn teams_asked(c: Constraint, i: u8, j: u8) -> bool
     }
     let kind = c.kind;
     match kind {
-        11 => true,
-        12 => across(c, i, j),
-        13 => across(c, i, j),
-        14 => across(c, i, j),
+        11..=14 => capacity_teams(c, i, j),
         21 => first & in_group(c.t2, j),
-        31 => true,
-        32 => true,
-        41 => first & second,
-        42 => first & second,
+        31..=32 => true,
+        41..=42 => first & second,
         51 => first & second,
         _ => false,
     }
@@ -79,11 +86,29 @@ fn reaches_at(s: u64, b: u8) -> bool
     masks::last_reach(s, (b - 1) as u64)
 }
 
+fn one_in(s: u64, a: u8, b: u8) -> bool
+    requires { ⌜ (a ≤ 64) × (b ≤ 64) ⌝ }
+    ensures { λ r. ⌜ r ≡ atSlot (has s) a || atSlot (has s) b ⌝ }
+{
+    in_at(s, a) | in_at(s, b)
+}
+
 fn one_reaches(s: u64, a: u8, b: u8) -> bool
     requires { ⌜ (a ≤ 64) × (b ≤ 64) ⌝ }
     ensures { λ r. ⌜ r ≡ atSlot (reaches s) a || atSlot (reaches s) b ⌝ }
 {
     reaches_at(s, a) | reaches_at(s, b)
+}
+
+// Capacity: CA3 asks for any slot, the other kinds for one of S.
+fn capacity_slots(c: Constraint, a: u8, b: u8) -> bool
+    requires { ⌜ (a ≤ 64) × (b ≤ 64) × (a ≡ b → ⊥) × (11 ≤ c .kind) × (c .kind ≤ 14) ⌝ }
+    ensures { λ r. ⌜ r ≡ slotAsked c a || slotAsked c b ⌝ }
+{
+    if c.kind == 13 {
+        return true;
+    }
+    one_in(c.s, a, b)
 }
 
 // One of two slots is such as the kind asks.
@@ -93,13 +118,12 @@ fn slots_asked(c: Constraint, a: u8, b: u8) -> bool
 {
     let kind = c.kind;
     match kind {
-        13 => true,
-        31 => one_reaches(c.s, a, b),
-        32 => one_reaches(c.s, a, b),
-        41 => one_reaches(c.s, a, b),
-        42 => one_reaches(c.s, a, b),
+        11..=14 => capacity_slots(c, a, b),
+        21 => one_in(c.s, a, b),
+        31..=32 => one_reaches(c.s, a, b),
+        41..=42 => one_reaches(c.s, a, b),
         51 => true,
-        _ => in_at(c.s, a) | in_at(c.s, b),
+        _ => one_in(c.s, a, b),
     }
 }
 
