@@ -11,21 +11,21 @@ make -s all
 cargo build --release --offline --quiet --manifest-path host/Cargo.toml --package bench
 bench=$CARGO_TARGET_DIR/release/bench
 
-# count LABEL WHO SEASON CONSTRAINTS CALL OPENS CALLS: the instructions within all calls of one sort, and how many calls they are
+# count LABEL WHO SEASON PART CALL OPENS CALLS: the instructions within all calls of one sort, and how many calls they are
 count() {
-    label=$1 who=$2 season=$3 constraints=$4 call=$5 opens=$6 calls=$7
+    label=$1 who=$2 season=$3 part=$4 call=$5 opens=$6 calls=$7
     case $who in
     library) function=season_$call ;;
     *) function=reference_$call ;;
     esac
     set -- $(valgrind --quiet --tool=callgrind --callgrind-out-file="$work/out" --toggle-collect="$function" \
-        "$bench" play "$who" "$season" "$opens" "$calls" "$constraints")
+        "$bench" play "$who" "$season" "$opens" "$calls" "$part")
     case $call in
     open) made=$1 ;;
     set) made=$2 ;;
     exchange) made=$3 ;;
     esac
-    echo "count $label $season $constraints $call $(awk '/^totals:/ { print $2 }' "$work/out") $made"
+    echo "count $label $season ${part#kind} $call $(awk '/^totals:/ { print $2 }' "$work/out") $made"
 }
 
 # parts SEASON: the functions with the largest part of what was counted last
@@ -48,6 +48,11 @@ for season in league18:300 largest32:1024 mixed32:1024; do
         count reference reference "$season" "$constraints" "$call" 1 20
     done
 done > "$work/counts"
+for season in league18 largest32 mixed32; do
+    for part in 0 kind11 kind12 kind13 kind14 kind21 kind31 kind32 kind41 kind42 kind51; do
+        count kind library "$season" "$part" set 1 "${BENCH_CALLS:-200}"
+    done
+done >> "$work/counts"
 for constraints in 0 64 128 256 512 1024; do
     count grown library largest32 "$constraints" set 1 200
 done >> "$work/counts"

@@ -6,27 +6,13 @@ mod report;
 
 fn main() {
     let words: Vec<String> = std::env::args().skip(1).collect();
-    match words
-        .iter()
-        .map(String::as_str)
-        .collect::<Vec<_>>()
-        .as_slice()
-    {
-        ["play", who, name, opens, calls, constraints] => {
-            let season = play::Sample::new(name, constraints.parse().expect("constraints"));
-            let made = season.play(
-                who,
-                opens.parse().expect("opens"),
-                calls.parse().expect("calls"),
-            );
+    match words.iter().map(String::as_str).collect::<Vec<_>>().as_slice() {
+        ["play", who, name, opens, calls, part] => {
+            let season = play::Sample::new(name, play::Part::parse(part));
+            let made = season.play(who, opens.parse().expect("opens"), calls.parse().expect("calls"));
             println!("{} {} {}", made.opens, made.sets, made.exchanges);
         }
-        ["report", counts] => print!(
-            "{}",
-            report::report(&std::fs::read_to_string(counts).expect("counts"))
-        ),
-        _ => panic!(
-            "bench play library|reference SEASON OPENS CALLS CONSTRAINTS | bench report COUNTS"
-        ),
+        ["report", counts] => print!("{}", report::report(&std::fs::read_to_string(counts).expect("counts"))),
+        _ => panic!("bench play library|reference SEASON OPENS CALLS CONSTRAINTS|kindKIND | bench report COUNTS"),
     }
 }

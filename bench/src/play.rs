@@ -74,10 +74,10 @@ pub extern "C" fn reference_exchange(
 }
 
 impl Sample {
-    /// A season of examples/ with so many of its constraints, evenly chosen.
-    pub fn new(name: &str, constraints: usize) -> Sample {
+    /// A season of examples/ with a part of its constraints.
+    pub fn new(name: &str, part: Part) -> Sample {
         let (bytes, sheet) = example_season(&format!("{name}.txt"));
-        let bytes = thin(&bytes, constraints);
+        let bytes = thin(&bytes, part);
         let buffers = Check::buffers_for(&bytes, &sheet);
         Sample {
             bytes,
@@ -164,15 +164,32 @@ impl Sample {
     }
 }
 
-/// The season with so many of its constraints, evenly chosen.
-fn thin(bytes: &[u8], constraints: usize) -> Vec<u8> {
+/// Which constraints of a season are kept: so many, evenly chosen, or those of a kind.
+#[derive(Clone, Copy)]
+pub enum Part {
+    Some(usize),
+    Kind(u8),
+}
+
+impl Part {
+    /// A number, or `kind` and a number.
+    pub fn parse(word: &str) -> Part {
+        match word.strip_prefix("kind") {
+            Some(kind) => Part::Kind(kind.parse().expect("a kind")),
+            None => Part::Some(word.parse().expect("a number of constraints")),
+        }
+    }
+}
+
+fn thin(bytes: &[u8], part: Part) -> Vec<u8> {
     let games = usize::from(u16::from_le_bytes([bytes[2], bytes[3]]));
     let all = usize::from(u16::from_le_bytes([bytes[4], bytes[5]]));
-    let keep: Vec<usize> = (0..constraints.min(all))
-        .map(|k| k * all / constraints)
-        .collect();
     let heads = 6 + 2 * games;
     let bodies = heads + 8 * all;
+    let keep: Vec<usize> = match part {
+        Part::Some(number) => (0..number.min(all)).map(|k| k * all / number).collect(),
+        Part::Kind(kind) => (0..all).filter(|k| bytes[heads + 8 * k] == kind).collect(),
+    };
     let mut thinned = bytes[..heads].to_vec();
     thinned[4..6].copy_from_slice(&(keep.len() as u16).to_le_bytes());
     thinned.extend(

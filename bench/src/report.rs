@@ -1,6 +1,6 @@
 //! The tables of docs/BENCHMARKS.md.
 
-use crate::play::{Made, Sample};
+use crate::play::{Made, Part, Sample};
 use std::collections::BTreeMap;
 use std::fmt::Write;
 
@@ -13,7 +13,22 @@ const LIMITS: [(&str, [f64; 3]); 3] = [
 
 const CALLS: [&str; 3] = ["open", "set", "exchange"];
 
-/// What the profiler counted: lines `count WHO SEASON CONSTRAINTS CALL INSTRUCTIONS CALLS` and `self SEASON PERCENT FUNCTION`.
+/// The kinds of constraints, with their numbers.
+const KINDS: [(&str, u8); 10] = [
+    ("CA1", 11),
+    ("CA2", 12),
+    ("CA3", 13),
+    ("CA4", 14),
+    ("GA1", 21),
+    ("BR1", 31),
+    ("BR2", 32),
+    ("FA1", 41),
+    ("FA2", 42),
+    ("SE1", 51),
+];
+
+/// What the profiler counted: lines `count WHO SEASON CONSTRAINTS CALL INSTRUCTIONS CALLS`, of a kind with its number instead of the
+/// constraints, and `self SEASON PERCENT FUNCTION`.
 #[derive(Default)]
 struct Counts {
     /// instructions a call
@@ -71,7 +86,7 @@ pub fn report(counts: &str) -> String {
     );
     let samples: Vec<Sample> = LIMITS
         .iter()
-        .map(|(name, _)| Sample::new(name, 1024))
+        .map(|(name, _)| Sample::new(name, Part::Some(1024)))
         .collect();
     let (mut to_limit, mut to_independent) = (0.0, f64::MAX);
     for ((name, limits), sample) in LIMITS.iter().zip(&samples) {
@@ -149,7 +164,7 @@ pub fn report(counts: &str) -> String {
         } else {
             thousands((set - none) / constraints as f64)
         };
-        let sample = Sample::new("largest32", constraints);
+        let sample = Sample::new("largest32", Part::Some(constraints));
         let time = best(5, || sample.play("library", 1, usize::MAX))[1];
         let _ = writeln!(
             text,
@@ -158,6 +173,38 @@ pub fn report(counts: &str) -> String {
             thousands(time)
         );
     }
+
+    text += "\n## What a set spends on each kind\n\nInstructions of a set on the season with the constraints of one kind only, beyond those of a set with none;\n\
+             in brackets the number of the constraints and the share of the whole season's set.\n\n\
+             | kind | league18 | largest32 | mixed32 |\n|---|---|---|---|\n";
+    for (kind, number) in KINDS {
+        let _ = write!(text, "| {kind} ");
+        for ((name, _), sample) in LIMITS.iter().zip(&samples) {
+            let whole = counts.of("library", name, sample.constraints(), "set");
+            let beyond =
+                counts.of("kind", name, number.into(), "set") - counts.of("kind", name, 0, "set");
+            let _ = write!(
+                text,
+                "| {} ({}, {:.0} %) ",
+                thousands(beyond),
+                Sample::new(name, Part::Kind(number)).constraints(),
+                100.0 * beyond / whole
+            );
+        }
+        text += "|\n";
+    }
+    text += "| none ";
+    for ((name, _), sample) in LIMITS.iter().zip(&samples) {
+        let none = counts.of("kind", name, 0, "set");
+        let whole = counts.of("library", name, sample.constraints(), "set");
+        let _ = write!(
+            text,
+            "| {} ({:.0} %) ",
+            thousands(none),
+            100.0 * none / whole
+        );
+    }
+    text += "|\n";
 
     text += "\n## Where the instructions of set are\n\nThe functions of the compiled library with the largest part of the instructions of all\n\
              sets of a list, without what they call. What the compiler put into its caller counts there.\n\n\
