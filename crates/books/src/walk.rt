@@ -108,7 +108,7 @@ fn walk(
     let mut at = 0;
     let mut k = 0;
     while k < z.constraints {
-        let c = season::reader::constraint_at(season, z, k);
+        let c = season::cursor::constraint_of(season, z, k);
         let end = at + season::rules::entries(c);
         if is_touched(c, touch) {
             sums = renew(

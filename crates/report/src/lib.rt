@@ -97,7 +97,7 @@ fn print_broken(season: &[u8], z: Season, c: usize, penalty: u64)
     requires { ⌜ (Measured (now season) z) × (c < z .constraints) ⌝ }
 {
     if 0 < penalty {
-        let k = season::reader::constraint_at(season, z, c);
+        let k = season::cursor::constraint_of(season, z, c);
         print_row(c as u64, k.kind as u64, penalty);
     }
 }

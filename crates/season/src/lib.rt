@@ -1,4 +1,5 @@
 // A season's bytes, read inside their ends, and the first true one of sentences 1 to 5.
+pub mod cursor;
 pub mod games;
 pub mod reader;
 pub mod rules;
@@ -64,7 +65,7 @@ fn examine_constraints(season: &[u8], z: Season) -> Examined
     let mut e: usize = 0;
     let mut c: usize = 0;
     while c < z.constraints {
-        let k = reader::constraint_at(season, z, c);
+        let k = cursor::constraint_of(season, z, c);
         if !rules::keeps_rules(k, z.teams, z.slots) {
             return refused_by(5);
         }

@@ -94,7 +94,7 @@ fn constraint_from(s: &[u8], h: usize, b: usize) -> Constraint
 }
 
 // Constraint number c.
-pub fn constraint_at(season: &[u8], z: Season, c: usize) -> Constraint
+pub(crate) fn constraint_at(season: &[u8], z: Season, c: usize) -> Constraint
     requires { ⌜ (Measured (now season) z) × (c < z .constraints) ⌝ }
     ensures { λ r. ⌜ r ≡ decode (now (season .entry)) .constraint c ⌝ }
 {

@@ -38,7 +38,7 @@ tested : (c : tie.After-keeps-rules Inv-loop μ-loop)
 tested c =
     let s = now (start c .args .season) in
     let sizes = start c .pre .0 .sizes in
-    rw (← teams-read s sizes, ← slots-read s sizes, ← c .before .constraint-at .ensures) (sym (c .keeps-rules .ensures))
+    rw (← teams-read s sizes, ← slots-read s sizes, ← c .before .constraint-of .ensures) (sym (c .keeps-rules .ensures))
 
 ranges : (c : tie.After-keeps-rules Inv-loop μ-loop) → InRange (start c .args .z)
 ranges c = in-range (start c .args .z) (start c .pre .1)
@@ -49,7 +49,7 @@ next c =
     let d = c .before .before in
     let s = now (start d .args .season) in
     let sizes = start d .pre .0 .sizes in
-    rw (c .entries .ensures ∙ ap entriesIn (d .before .constraint-at .ensures))
+    rw (c .entries .ensures ∙ ap entriesIn (d .before .constraint-of .ensures))
     (kept-more (season d)
     (rw (← teams-read s sizes) (ranges d .teams))
     (rw (← slots-read s sizes) (ranges d .slots))
@@ -59,8 +59,8 @@ next c =
 loop-holds : tie.Need-loop-holds Inv-loop μ-loop
 loop-holds c = (omega arith, kept-none _)
 
-constraint-at-requires : tie.Need-constraint-at-requires Inv-loop μ-loop
-constraint-at-requires c κs = search needs
+constraint-of-requires : tie.Need-constraint-of-requires Inv-loop μ-loop
+constraint-of-requires c κs = search needs
 
 keeps-rules-requires : tie.Need-keeps-rules-requires Inv-loop μ-loop
 keeps-rules-requires c κs =
@@ -109,7 +109,7 @@ examine-constraints-spec =
     Inv-loop
     μ-loop
     loop-holds
-    constraint-at-requires
+    constraint-of-requires
     keeps-rules-requires
     refused-by-requires
     returns

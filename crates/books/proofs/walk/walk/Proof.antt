@@ -19,20 +19,20 @@ abbrev μ-loop : tie.MeasureT-loop
 loop-holds : tie.Need-loop-holds Inv-loop μ-loop
 loop-holds c = (search needs, walked-none _ _ _ _ _ _ refl refl)
 
-constraint-at-requires : tie.Need-constraint-at-requires Inv-loop μ-loop
-constraint-at-requires c κs = (c .before .before .before .before .before .before .pre .0 .measured, c .if1 .taken)
+constraint-of-requires : tie.Need-constraint-of-requires Inv-loop μ-loop
+constraint-of-requires c κs = (c .before .before .before .before .before .before .pre .0 .measured, c .if1 .taken)
 
 entries-requires : tie.Need-entries-requires Inv-loop μ-loop
 entries-requires c κs = search needs
 
 add-end : tie.Need-add-end Inv-loop μ-loop
-add-end c = omega (arith, turn-fits (c .before .before .before .before .before .before .before .before .pre .0) (c .before .before .before .before .before .before .before .before .args .touch) (c .before .before .before .before .loop .inv .1) (c .before .before .if1 .taken) (c .before .constraint-at .ensures) (c .entries .ensures), c .before .before .before .before .loop .inv .1 .laid .long, c .before .before .before .before .before .before .before .before .good)
+add-end c = omega (arith, turn-fits (c .before .before .before .before .before .before .before .before .pre .0) (c .before .before .before .before .before .before .before .before .args .touch) (c .before .before .before .before .loop .inv .1) (c .before .before .if1 .taken) (c .before .constraint-of .ensures) (c .entries .ensures), c .before .before .before .before .loop .inv .1 .laid .long, c .before .before .before .before .before .before .before .before .good)
 
 is-touched-requires : tie.Need-is-touched-requires Inv-loop μ-loop
 is-touched-requires c κs = (c .before .before .before .before .before .before .before .before .pre .1, c .before .before .before .before .before .before .before .before .pre .2)
 
 mul-renew : tie.Need-mul-renew Inv-loop μ-loop
-mul-renew c = omega (arith, turn-fits (c .before .before .before .before .before .before .before .before .before .before .pre .0) (c .before .before .before .before .before .before .before .before .before .before .args .touch) (c .before .before .before .before .before .before .loop .inv .1) (c .before .before .before .before .if1 .taken) (c .before .before .before .constraint-at .ensures) (c .before .before .entries .ensures), c .before .before .before .before .before .before .loop .inv .1 .laid .long, c .before .before .before .before .before .before .before .before .before .before .good)
+mul-renew c = omega (arith, turn-fits (c .before .before .before .before .before .before .before .before .before .before .pre .0) (c .before .before .before .before .before .before .before .before .before .before .args .touch) (c .before .before .before .before .before .before .loop .inv .1) (c .before .before .before .before .if1 .taken) (c .before .before .before .constraint-of .ensures) (c .before .before .entries .ensures), c .before .before .before .before .before .before .loop .inv .1 .laid .long, c .before .before .before .before .before .before .before .before .before .before .good)
 
 sub-renew : tie.Need-sub-renew Inv-loop μ-loop
 sub-renew c = search needs
@@ -41,10 +41,10 @@ part-renew-start : tie.Need-part-renew-start Inv-loop μ-loop
 part-renew-start c = search needs
 
 part-renew-end : tie.Need-part-renew-end Inv-loop μ-loop
-part-renew-end c = turn-fits (c .before .before .before .before .before .before .before .before .before .before .pre .0) (c .before .before .before .before .before .before .before .before .before .before .args .touch) (c .before .before .before .before .before .before .loop .inv .1) (c .before .before .before .before .if1 .taken) (c .before .before .before .constraint-at .ensures) (c .before .before .entries .ensures)
+part-renew-end c = turn-fits (c .before .before .before .before .before .before .before .before .before .before .pre .0) (c .before .before .before .before .before .before .before .before .before .before .args .touch) (c .before .before .before .before .before .before .loop .inv .1) (c .before .before .before .before .if1 .taken) (c .before .before .before .constraint-of .ensures) (c .before .before .entries .ensures)
 
 renew-requires : tie.Need-renew-requires Inv-loop μ-loop
-renew-requires c κs = (turn-ready (c .before .before .before .before .before .before .before .before .before .before .before .before .pre .0) (c .before .before .before .before .before .before .before .before .before .before .before .before .args .touch) (c .before .before .before .before .before .before .before .before .loop .inv .1) (c .before .before .before .before .before .before .if1 .taken) (c .before .before .before .before .before .constraint-at .ensures) (c .before .before .before .before .entries .ensures), turn-counted (c .before .before .before .before .before .before .before .before .before .before .before .before .pre .0) (c .before .before .before .before .before .before .before .before .before .before .before .before .args .touch) (c .before .before .before .before .before .before .before .before .loop .inv .1) (c .before .before .before .before .before .before .if1 .taken) (c .before .before .before .before .before .constraint-at .ensures) (c .before .before .before .before .entries .ensures))
+renew-requires c κs = (turn-ready (c .before .before .before .before .before .before .before .before .before .before .before .before .pre .0) (c .before .before .before .before .before .before .before .before .before .before .before .before .args .touch) (c .before .before .before .before .before .before .before .before .loop .inv .1) (c .before .before .before .before .before .before .if1 .taken) (c .before .before .before .before .before .constraint-of .ensures) (c .before .before .before .before .entries .ensures), turn-counted (c .before .before .before .before .before .before .before .before .before .before .before .before .pre .0) (c .before .before .before .before .before .before .before .before .before .before .before .before .args .touch) (c .before .before .before .before .before .before .before .before .loop .inv .1) (c .before .before .before .before .before .before .if1 .taken) (c .before .before .before .before .before .constraint-of .ensures) (c .before .before .before .before .entries .ensures))
 
 add-k : tie.Need-add-k Inv-loop μ-loop
 add-k c = omega (arith, c .before .before .before .before .if1 .taken, ranges (c .before .before .before .before .before .before .before .before .before .before .pre .0) .constraints)
@@ -57,7 +57,7 @@ loop-again c = ⊎-elim
     (λ w. (
       omega (arith, c .before .before .before .before .if1 .taken),
       rw (w .8, w .9, w .10)
-          (turn-reworked (c .before .before .before .before .before .before .before .before .before .before .pre .0) (c .before .before .before .before .before .before .before .before .before .before .args .touch) (c .before .before .before .before .before .before .loop .inv .1) (c .before .before .before .before .if1 .taken) (c .before .before .before .constraint-at .ensures) (c .before .before .entries .ensures)
+          (turn-reworked (c .before .before .before .before .before .before .before .before .before .before .pre .0) (c .before .before .before .before .before .before .before .before .before .before .args .touch) (c .before .before .before .before .before .before .loop .inv .1) (c .before .before .before .before .if1 .taken) (c .before .before .before .constraint-of .ensures) (c .before .before .entries .ensures)
           (sym (c .before .is-touched .ensures) ∙ w .0 .taken)
           (w .3 .ensures .0)
           refl
@@ -68,7 +68,7 @@ loop-again c = ⊎-elim
     (λ w. (
       omega (arith, c .before .before .before .before .if1 .taken),
       rw (w .1, w .2, w .3)
-          (turn-kept (c .before .before .before .before .before .before .before .before .before .before .pre .0) (c .before .before .before .before .before .before .before .before .before .before .args .touch) (c .before .before .before .before .before .before .loop .inv .1) (c .before .before .before .before .if1 .taken) (c .before .before .before .constraint-at .ensures) (c .before .before .entries .ensures)
+          (turn-kept (c .before .before .before .before .before .before .before .before .before .before .pre .0) (c .before .before .before .before .before .before .before .before .before .before .args .touch) (c .before .before .before .before .before .before .loop .inv .1) (c .before .before .before .before .if1 .taken) (c .before .before .before .constraint-of .ensures) (c .before .before .entries .ensures)
           (sym (c .before .is-touched .ensures) ∙ w .0 .left)),
     ))
     (c .if2 .came)
@@ -92,7 +92,7 @@ walk-spec =
     Inv-loop
     μ-loop
     loop-holds
-    constraint-at-requires
+    constraint-of-requires
     entries-requires
     add-end
     is-touched-requires
