@@ -4,6 +4,7 @@ use mathlib.Core.Bool.{Bool}
 use Prim.Native.Nat.{ℕ, _+_, _%_, _^_}
 use Rattle.robinx.specs.Sums.{only}
 use Rattle.robinx.specs.Books.{isHard, isSoft}
+use Rattle.robinx.specs.Calls.{movedTotal}
 use Rattle.robinx.specs.declared.Constraint.{Constraint}
 use Rattle.robinx.specs.declared.Totals.{Totals}
 
@@ -15,3 +16,7 @@ pub record Holds (sum : (Constraint → Bool) → ℕ) (t : Totals) : Type 0 whe
 -- t with the penalty p of the constraint c added is r
 abbrev pub Adds : Totals → Constraint → ℕ → Totals → Type 0
 Adds t c p r = (r .hard ≡ (t .hard + only (isHard c) p) % 2 ^ 64) × (r .soft ≡ (t .soft + only (isSoft c) p) % 2 ^ 64)
+
+-- t with each total moved by its own change, which d holds
+abbrev pub movedBy : Totals → Totals → Totals
+movedBy t d = record { hard = movedTotal (t .hard) (d .hard); soft = movedTotal (t .soft) (d .soft) }

@@ -34,14 +34,14 @@ fn settle(moved: Moved, at: usize, tally: &mut [u64]) -> Totals
         (movedTotal (getD (now (tally .entry)) at 0) (r .hard))
         (movedTotal (getD (now (tally .entry)) (at + 1) 0) (r .soft))) ⌝ }
 {
-    let hard = totals::change_of(moved.gained.hard, moved.lost.hard);
-    let soft = totals::change_of(moved.gained.soft, moved.lost.soft);
-    let new = Totals {
-        hard: totals::moved_total(tally[at], hard),
-        soft: totals::moved_total(tally[at + 1], soft),
+    let change = Totals {
+        hard: totals::change_of(moved.gained.hard, moved.lost.hard),
+        soft: totals::change_of(moved.gained.soft, moved.lost.soft),
     };
-    store(new, at, tally);
-    Totals { hard, soft }
+    let hard = tally[at];
+    let soft = tally[at + 1];
+    store(totals::moved(Totals { hard, soft }, change), at, tally);
+    change
 }
 
 // The books of the tables, and the totals.

@@ -6,6 +6,7 @@ ghost use lib.Dec.{eqb};
 ghost use mir.Syntax.{w64};
 ghost use mir.Val.{toZ};
 ghost use Rattle.robinx.specs.Sums.{only};
+ghost use Rattle.books.specs.Running.{movedBy};
 use robinx::Totals;
 
 // A penalty is added to the hard total or to the soft one.
@@ -31,6 +32,22 @@ pub fn moved_total(old: u64, change: u64) -> u64
     ensures { λ r. ⌜ r ≡ (old + change) % 2 ^ 64 ⌝ }
 {
     std::num::wrapping_add_u64(old, change)
+}
+
+// Moves both totals, each by its own change.
+fn apply(totals: &mut Totals, change: Totals)
+    ensures { λ _. ⌜ now (totals .exit) ≡ movedBy (now (totals .entry)) change ⌝ }
+{
+    totals.hard = moved_total(totals.hard, change.hard);
+    totals.soft = moved_total(totals.soft, change.soft);
+}
+
+// The totals after a change. It lends a copy of its own, so that its callers need no proof by hand.
+pub fn moved(mut totals: Totals, change: Totals) -> Totals
+    ensures { λ r. ⌜ r ≡ movedBy totals change ⌝ }
+{
+    apply(&mut totals, change);
+    totals
 }
 
 // A change as two's complement.

@@ -1,5 +1,7 @@
 -- Both totals are read before they are written.
+use mathlib.Core.Path.{ap}
 use borrow.Author.Needs.{needs}
+use Rattle.robinx.specs.declared.Totals.{Totals}
 use Rattle.books.proofs.settle.Statement.{statement}
 use Rattle.books.proofs.settle.Tie as tie
 
@@ -9,26 +11,23 @@ change-of-requires c κs = search needs
 change-of-requires-2 : tie.Need-change-of-requires-2
 change-of-requires-2 c κs = search needs
 
-mul-moved-total : tie.Need-mul-moved-total
-mul-moved-total c = search needs
+mul-hard : tie.Need-mul-hard
+mul-hard c = search needs
 
-slice-read-moved-total : tie.Need-slice-read-moved-total
-slice-read-moved-total c = search needs
+slice-read-hard : tie.Need-slice-read-hard
+slice-read-hard c = search needs
 
-moved-total-requires : tie.Need-moved-total-requires
-moved-total-requires c κs = search needs
+add-soft : tie.Need-add-soft
+add-soft c = search needs
 
-add-moved-total : tie.Need-add-moved-total
-add-moved-total c = search needs
+mul-soft : tie.Need-mul-soft
+mul-soft c = search needs
 
-mul-moved-total-2 : tie.Need-mul-moved-total-2
-mul-moved-total-2 c = search needs
+slice-read-soft : tie.Need-slice-read-soft
+slice-read-soft c = search needs
 
-slice-read-moved-total-2 : tie.Need-slice-read-moved-total-2
-slice-read-moved-total-2 c = search needs
-
-moved-total-requires-2 : tie.Need-moved-total-requires-2
-moved-total-requires-2 c κs = search needs
+moved-requires : tie.Need-moved-requires
+moved-requires c κs = search needs
 
 store-requires : tie.Need-store-requires
 store-requires c κs = search needs
@@ -37,10 +36,10 @@ same-length : tie.Need-same-length
 same-length c = search needs
 
 returns : tie.Need-returns
-returns c = (
-  c .before .before .before .before .before .before .before .before .before .change-of .ensures,
-  c .before .before .before .before .before .before .before .before .change-of2 .ensures,
-  rw (← c .before .before .before .before .before .before .moved-total .ensures, ← c .before .before .before .before .moved-total2 .ensures) (c .before .before .store .ensures),
+returns c = let e = c .before .before .before .before .moved .ensures in (
+  c .before .before .before .before .before .before .before .before .change-of .ensures,
+  c .before .before .before .before .before .before .before .change-of2 .ensures,
+  rw (← ap (λ (t : Totals). t .hard) e, ← ap (λ (t : Totals). t .soft) e) (c .before .before .store .ensures),
 )
 
 pub settle-spec : {M : Type 1} → statement M
@@ -49,13 +48,12 @@ settle-spec =
     (tie.spec
     change-of-requires
     change-of-requires-2
-    mul-moved-total
-    slice-read-moved-total
-    moved-total-requires
-    add-moved-total
-    mul-moved-total-2
-    slice-read-moved-total-2
-    moved-total-requires-2
+    mul-hard
+    slice-read-hard
+    add-soft
+    mul-soft
+    slice-read-soft
+    moved-requires
     store-requires
     same-length
     returns)
