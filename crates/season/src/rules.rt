@@ -1,13 +1,16 @@
 // The rules that a constraint keeps, and how many deviations it has.
 ghost use mathlib.Core.Path.{_≡_};
-ghost use mathlib.Core.Bool.{true, false};
 ghost use Prim.Native.Nat.{_-_, _*_, _<_, _≤_, _^_};
 ghost use lib.Count.{ones};
-ghost use Rattle.robinx.specs.Kinds.{kindOf};
-ghost use Rattle.robinx.specs.Rules.{formOf, fits, obeys};
+ghost use Rattle.robinx.specs.Rules.{fits, keeps, obeys};
 ghost use Rattle.season.specs.Counted.{row, headKeeps, countsKeep, groupsKeep, severalKeep, sizesKeep, pairsIn, entriesIn};
 use robinx::Constraint;
 use robinx::Form;
+
+// The table's words for a column that a kind uses or not.
+const YES: bool = true;
+
+const NO: bool = false;
 
 // A row of the table of kinds, in the order of its columns.
 fn form(
@@ -33,82 +36,6 @@ fn form(
         least,
         fewest,
         several,
-    }
-}
-
-// No mode is one of an unknown kind.
-fn form_of_none() -> Form
-    ensures { λ r. ⌜ r ≡ row 0 false false false false false 0 1 false ⌝ }
-{
-    form(0, false, false, false, false, false, 0, 1, false)
-}
-
-fn form_of_capacity(kind: u8) -> Form
-    requires { ⌜ (10 ≤ kind) × (kind ≤ 19) ⌝ }
-    ensures { λ r. ⌜ r ≡ formOf (kindOf kind) ⌝ }
-{
-    match kind {
-        11 => form(3, true, true, false, false, true, 0, 1, false),
-        12 => form(3, true, true, false, true, true, 0, 1, true),
-        13 => form(3, true, true, true, true, false, 0, 1, false),
-        14 => form(6, true, true, false, true, true, 0, 2, false),
-        _ => form_of_none(),
-    }
-}
-
-fn form_of_game(kind: u8) -> Form
-    requires { ⌜ (20 ≤ kind) × (kind ≤ 29) ⌝ }
-    ensures { λ r. ⌜ r ≡ formOf (kindOf kind) ⌝ }
-{
-    match kind {
-        21 => form(1, true, true, false, true, true, 0, 1, false),
-        _ => form_of_none(),
-    }
-}
-
-fn form_of_break(kind: u8) -> Form
-    requires { ⌜ (30 ≤ kind) × (kind ≤ 39) ⌝ }
-    ensures { λ r. ⌜ r ≡ formOf (kindOf kind) ⌝ }
-{
-    match kind {
-        31 => form(6, false, true, false, false, true, 0, 1, false),
-        32 => form(6, false, true, false, false, true, 1, 2, false),
-        _ => form_of_none(),
-    }
-}
-
-fn form_of_fairness(kind: u8) -> Form
-    requires { ⌜ (40 ≤ kind) × (kind ≤ 49) ⌝ }
-    ensures { λ r. ⌜ r ≡ formOf (kindOf kind) ⌝ }
-{
-    match kind {
-        41 => form(1, false, true, false, false, true, 0, 1, false),
-        42 => form(3, false, true, false, false, true, 0, 2, false),
-        _ => form_of_none(),
-    }
-}
-
-fn form_of_separation(kind: u8) -> Form
-    requires { ⌜ (50 ≤ kind) × (kind ≤ 59) ⌝ }
-    ensures { λ r. ⌜ r ≡ formOf (kindOf kind) ⌝ }
-{
-    match kind {
-        51 => form(1, false, false, true, false, false, 0, 2, false),
-        _ => form_of_none(),
-    }
-}
-
-// What a kind asks of its constraints.
-pub fn form_of(kind: u8) -> Form
-    ensures { λ r. ⌜ r ≡ formOf (kindOf kind) ⌝ }
-{
-    match kind {
-        10..=19 => form_of_capacity(kind),
-        20..=29 => form_of_game(kind),
-        30..=39 => form_of_break(kind),
-        40..=49 => form_of_fairness(kind),
-        50..=59 => form_of_separation(kind),
-        _ => form_of_none(),
     }
 }
 
@@ -188,13 +115,88 @@ fn sizes_keep(f: Form, c: Constraint) -> bool
     (f.fewest as usize <= teams_in(c.t1)) & several_keep(f, c.t1, c.t2)
 }
 
-// Whether a constraint keeps every rule of its kind.
+// Whether a constraint keeps every rule of a kind with this row.
+fn keeps(f: Form, c: Constraint, n: usize, p: usize) -> bool
+    requires { ⌜ (1 ≤ n) × (n ≤ 32) × (1 ≤ p) × (p ≤ 64) ⌝ }
+    ensures { λ r. ⌜ r ≡ keeps f n p c ⌝ }
+{
+    head_keeps(f, c) & counts_keep(f, c) & groups_keep(f, c, n, p) & sizes_keep(f, c)
+}
+
+fn capacity_keeps(c: Constraint, n: usize, p: usize) -> bool
+    requires { ⌜ (10 ≤ c .kind) × (c .kind ≤ 19) × (1 ≤ n) × (n ≤ 32) × (1 ≤ p) × (p ≤ 64) ⌝ }
+    ensures { λ r. ⌜ r ≡ obeys n p c ⌝ }
+{
+    let kind = c.kind;
+    match kind {
+        11 => keeps(form(3, YES, YES, NO, NO, YES, 0, 1, NO), c, n, p),
+        12 => keeps(form(3, YES, YES, NO, YES, YES, 0, 1, YES), c, n, p),
+        13 => keeps(form(3, YES, YES, YES, YES, NO, 0, 1, NO), c, n, p),
+        14 => keeps(form(6, YES, YES, NO, YES, YES, 0, 2, NO), c, n, p),
+        _ => false,
+    }
+}
+
+fn game_keeps(c: Constraint, n: usize, p: usize) -> bool
+    requires { ⌜ (20 ≤ c .kind) × (c .kind ≤ 29) × (1 ≤ n) × (n ≤ 32) × (1 ≤ p) × (p ≤ 64) ⌝ }
+    ensures { λ r. ⌜ r ≡ obeys n p c ⌝ }
+{
+    let kind = c.kind;
+    match kind {
+        21 => keeps(form(1, YES, YES, NO, YES, YES, 0, 1, NO), c, n, p),
+        _ => false,
+    }
+}
+
+fn break_keeps(c: Constraint, n: usize, p: usize) -> bool
+    requires { ⌜ (30 ≤ c .kind) × (c .kind ≤ 39) × (1 ≤ n) × (n ≤ 32) × (1 ≤ p) × (p ≤ 64) ⌝ }
+    ensures { λ r. ⌜ r ≡ obeys n p c ⌝ }
+{
+    let kind = c.kind;
+    match kind {
+        31 => keeps(form(6, NO, YES, NO, NO, YES, 0, 1, NO), c, n, p),
+        32 => keeps(form(6, NO, YES, NO, NO, YES, 1, 2, NO), c, n, p),
+        _ => false,
+    }
+}
+
+fn fairness_keeps(c: Constraint, n: usize, p: usize) -> bool
+    requires { ⌜ (40 ≤ c .kind) × (c .kind ≤ 49) × (1 ≤ n) × (n ≤ 32) × (1 ≤ p) × (p ≤ 64) ⌝ }
+    ensures { λ r. ⌜ r ≡ obeys n p c ⌝ }
+{
+    let kind = c.kind;
+    match kind {
+        41 => keeps(form(1, NO, YES, NO, NO, YES, 0, 1, NO), c, n, p),
+        42 => keeps(form(3, NO, YES, NO, NO, YES, 0, 2, NO), c, n, p),
+        _ => false,
+    }
+}
+
+fn separation_keeps(c: Constraint, n: usize, p: usize) -> bool
+    requires { ⌜ (50 ≤ c .kind) × (c .kind ≤ 59) × (1 ≤ n) × (n ≤ 32) × (1 ≤ p) × (p ≤ 64) ⌝ }
+    ensures { λ r. ⌜ r ≡ obeys n p c ⌝ }
+{
+    let kind = c.kind;
+    match kind {
+        51 => keeps(form(1, NO, NO, YES, NO, NO, 0, 2, NO), c, n, p),
+        _ => false,
+    }
+}
+
+// Whether a constraint keeps every rule of its kind. An unknown kind has no mode, so no constraint of it does.
 pub fn keeps_rules(c: Constraint, n: usize, p: usize) -> bool
     requires { ⌜ (1 ≤ n) × (n ≤ 32) × (1 ≤ p) × (p ≤ 64) ⌝ }
     ensures { λ r. ⌜ r ≡ obeys n p c ⌝ }
 {
-    let f = form_of(c.kind);
-    head_keeps(f, c) & counts_keep(f, c) & groups_keep(f, c, n, p) & sizes_keep(f, c)
+    let kind = c.kind;
+    match kind {
+        10..=19 => capacity_keeps(c, n, p),
+        20..=29 => game_keeps(c, n, p),
+        30..=39 => break_keeps(c, n, p),
+        40..=49 => fairness_keeps(c, n, p),
+        50..=59 => separation_keeps(c, n, p),
+        _ => false,
+    }
 }
 
 fn pairs_of(t: u32) -> usize
