@@ -1,9 +1,10 @@
 -- Sums and largest values whose terms are 0 from P on may stop at P. A mask below 2 ^ P has no slot from P on. Assumes nothing.
-use mathlib.Core.Path.{_≡_, refl, sym, ap, _∙_}
+use mathlib.Core.Path.{_≡_, refl, sym, ap, subst, _∙_}
 use mathlib.Core.Bool.{Bool, true, false, true≢false}
 use Prim.Native.Nat.{ℕ, zero, suc, _+_, _-_, _%_, _^_, _<_, _≤_}
 use native.Mathlib.Omega.{arith}
-use native.Mathlib.Nat.{div-eq-of-lt, add-zero, add-suc}
+use native.Mathlib.Numerals.{add-one}
+use native.Mathlib.Nat.{div-eq-of-lt, add-zero}
 use lib.Dec.{eqb, ltb}
 use lib.Pow.{pow-mono}
 use borrow.Author.Tests.{ltb-true, ltb-false}
@@ -22,12 +23,16 @@ in-below m P h k e = go (ltb k P) refl
     go false t = absurd (true≢false (sym e ∙ none-past m P h k (ltb-false k P t)))
 
 module _ (P N : ℕ) (l : P ≤ N) where
-  pub stop : (F : ℕ → ℕ) → ((k : ℕ) → P ≤ k → k < N → F (suc k) ≡ F k) → F N ≡ F P
-  stop F same = let e : N ≡ P + (N - P) = omega arith in ap F e ∙ go (N - P) (omega arith)
+  -- what each place from P on keeps
+  pub passed : (F : ℕ → Type 0) → ((k : ℕ) → P ≤ k → k < N → F k → F (k + 1)) → F P → F N
+  passed F keep s = let e : P + (N - P) ≡ N = omega arith in subst F e (go (N - P) (omega arith))
     where
-      go : (j : ℕ) → P + j ≤ N → F (P + j) ≡ F P
-      go zero h = ap F (add-zero P)
-      go (suc j) h = ap F (add-suc P j) ∙ same (P + j) (omega arith) (omega arith) ∙ go j (omega arith)
+      go : (j : ℕ) → P + j ≤ N → F (P + j)
+      go zero h = rw add-zero s
+      go (suc j) h = let e : P + j + 1 ≡ P + suc j = omega arith in subst F e (keep (P + j) (omega arith) (omega arith) (go j (omega arith)))
+
+  pub stop : (F : ℕ → ℕ) → ((k : ℕ) → P ≤ k → k < N → F (suc k) ≡ F k) → F N ≡ F P
+  stop F same = passed (λ k. F k ≡ F P) (λ k a b e. ap F (add-one k) ∙ same k a b ∙ e) refl
 
   sum-stop : (f : ℕ → ℕ) → ((k : ℕ) → P ≤ k → k < N → f k ≡ 0) → sumTo f N ≡ sumTo f P
   unfolding sumTo

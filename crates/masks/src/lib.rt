@@ -2,7 +2,7 @@
 ghost use mathlib.Core.Path.{_≡_};
 ghost use Prim.Native.Nat.{_+_, _-_, _%_, _<_, _≤_, _^_, max};
 ghost use lib.Bits.{bitOr};
-ghost use lib.Dec.{eqb, ltb};
+ghost use lib.Dec.{eqb};
 ghost use Rattle.robinx.specs.Sums.{only, sumTo, dist};
 ghost use Rattle.robinx.specs.Groups.{bit, has, reaches};
 ghost use Rattle.robinx.specs.Deviations.{over, outside, tooClose};
@@ -91,15 +91,10 @@ pub fn breaks_in(side: u64, all: u64, s: u64) -> u32
     count_in(break_mask(side, all), s)
 }
 
-// How much closer than w slots a game in slot s is to the last one before it. Both count from 1, and 0 is none.
-fn too_close(w: u8, s: u32, last: u32) -> u32
-    requires { ⌜ last < s ⌝ }
-    ensures { λ r. ⌜ (r ≡ only (ltb 0 last) (w - (s - last))) × (r ≤ 255) ⌝ }
+// How much closer than w slots two games are that are gap slots apart.
+fn too_close(w: u8, gap: u32) -> u32
+    ensures { λ r. ⌜ (r ≡ w - gap) × (r ≤ 255) ⌝ }
 {
-    if last == 0 {
-        return 0;
-    }
-    let gap = s - last;
     let least = w as u32;
     if gap < least { least - gap } else { 0 }
 }
@@ -108,14 +103,15 @@ fn too_close(w: u8, s: u32, last: u32) -> u32
 pub fn closeness(v: u64, w: u8) -> u32
     ensures { λ r. ⌜ r ≡ sumTo (tooClose (has v) w) 64 ⌝ }
 {
+    if v == 0 {
+        return 0;
+    }
+    let first = u64::trailing_zeros(v);
     let mut c: u32 = 0;
-    let mut last: u32 = 0;
-    let mut rest = v;
+    let mut rest = (v >> first) >> 1;
     while rest != 0 {
         let z = u64::trailing_zeros(rest);
-        let s = last + z + 1;
-        c += too_close(w, s, last);
-        last = s;
+        c += too_close(w, z + 1);
         rest = (rest >> z) >> 1;
     }
     c
