@@ -8,29 +8,15 @@ use native.Mathlib.Nat.{pow-suc}
 use lib.Bits.{bitOr}
 use lib.ListN.{getD}
 use lib.Pow.{ones-split, high, ones-lt, pow-pos}
-use borrow.Author.Tests.{ne-eqb}
 use Rattle.robinx.specs.Sums.{sumTo, maxTo, only}
 use Rattle.robinx.specs.Groups.{bit, has}
 use Rattle.robinx.specs.Timetable.{X, gamesWith, gamesIn, gamesAgainst}
-use Rattle.robinx.proofs.Sums.{only-le, max-step, sum-zero, sum-add, sum-le}
+use Rattle.robinx.proofs.Sums.{only-le, sum-zero, sum-add, sum-le}
 use Rattle.robinx.proofs.Ext.{sum-ext, max-ext}
 use Rattle.masks.proofs.Bits.{or-bit, none-bit}
 use Rattle.masks.proofs.Width.{max-stop, none-past}
 use Rattle.timetable.specs.Tables.{Tied, xOf, cell}
-use Rattle.figures.specs.Games.{MaskOf, ofSides, inUnion, Union, UnionIf}
-
--- One more team's turn.
-module _ (l : List ℕ) (T base step j u v : ℕ) {rest : ℕ} (old : Union l T base step j u) (left : rest ≡ T / 2 ^ j) where
-  pub joins : {at : ℕ} → at ≡ base + j * step → rest % 2 ≡ 1 → v ≡ bitOr u (getD l at 0) → Union l T base step (j + 1) v
-  joins {at} place e new k =
-      rw (max-step, ← left, e, ← place, ← old k) (ap (λ (m : ℕ). bit m k) new ∙ or-bit u (getD l at 0) k)
-
-  pub passes : (rest % 2 ≡ 1 → ⊥) → v ≡ u → Union l T base step (j + 1) v
-  passes e new k = rw (max-step, ← left, ne-eqb (rest % 2) 1 e, ← old k) (ap (λ (m : ℕ). bit m k) new ∙ omega arith)
-
-pub no-union : (l : List ℕ) (T base step : ℕ) → Union l T base step 0 0
-unfolding maxTo
-no-union l T base step k = none-bit k
+use Rattle.figures.specs.Games.{MaskOf, ofSides, inUnion, UnionIf}
 
 -- where at most one of two or of many is 1, the largest is the sum
 max-is-sum : (f : ℕ → ℕ) (n : ℕ) → sumTo f n ≤ 1 → maxTo f n ≡ sumTo f n

@@ -24,7 +24,7 @@ pub fn played(home: &[u64; 32], away: &[u64; 32], sides: u8, t: usize) -> u64
     only_if(asks_home(sides), home[t]) | only_if(asks_away(sides), away[t])
 }
 
-// The union of the words base, base + step, .., of the teams of the group. Every team has its turn: the loop's length is fixed.
+// The union of the words base, base + step, .., of the teams of the group: from one member to the next.
 fn gather(meets: &[u64; 1024], group: u32, base: usize, step: usize) -> u64
     requires { ⌜ base + 31 * step < 1024 ⌝ }
     ensures { λ r. ⌜ Union (now (meets .entry)) group base step 32 r ⌝ }
@@ -32,13 +32,11 @@ fn gather(meets: &[u64; 1024], group: u32, base: usize, step: usize) -> u64
     let mut u: u64 = 0;
     let mut at = base;
     let mut rest = group;
-    let mut j: usize = 0;
-    while j < 32 {
-        if rest % 2 == 1 {
-            u = u | meets[at];
-        }
-        rest = rest >> 1;
-        j += 1;
+    while rest != 0 {
+        let z = u32::trailing_zeros(rest);
+        at += z as usize * step;
+        u = u | meets[at];
+        rest = (rest >> z) >> 1;
         at += step;
     }
     u

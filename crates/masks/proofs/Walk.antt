@@ -4,9 +4,9 @@ use mathlib.Core.Bool.{Bool, true, false}
 use Prim.Native.Nat.{ℕ, zero, suc, _+_, _-_, _*_, _/_, _%_, _^_, _<_, _≤_}
 use native.Mathlib.Omega.{arith}
 use native.Mathlib.Numerals.{add-one}
-use native.Mathlib.Nat.{pow-suc, div-one, mod-lt}
+use native.Mathlib.Nat.{pow-suc, div-one}
 use lib.Dec.{eqb, ltb}
-use lib.Pow.{pow-pos, shr-shr, shr-le, split}
+use lib.Pow.{shr-shr, shr-le}
 use lib.Count.{trailingZeros, under}
 use Rattle.robinx.specs.Sums.{only, sumTo}
 use Rattle.robinx.specs.Groups.{bit, has}

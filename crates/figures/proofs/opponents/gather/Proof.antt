@@ -1,62 +1,60 @@
--- `opponents::gather` meets its contract: before each turn u is the union of the teams that had theirs. Assumes nothing.
+-- `opponents::gather` meets its contract: before each turn u is the union of the members that had theirs. Assumes nothing.
 use denote.Ref.{now}
-use mathlib.Core.Path.{_≡_, sym, ap, _∙_}
-use mathlib.Core.Logic.{⊎-elim}
-use Prim.Native.Nat.{ℕ, _+_, _-_, _*_, _/_, _^_, _≤_}
+use Prim.Native.Nat.{_+_, _*_, _<_, _≤_}
 use native.Mathlib.Omega.{arith}
-use native.Mathlib.Nat.{div-one, mul-le-mul-right, add-mul}
+use lib.Count.{trailingZeros}
+use lib.Pow.{shr-le}
 use borrow.Author.Needs.{needs}
-use lib.Pow.{shr-shr}
-use Rattle.figures.specs.Games.{Union}
-use Rattle.figures.proofs.Games.{joins, passes, no-union}
+use Rattle.figures.proofs.Gathered.{Gathered, gathered-none, gathered-room, gathered-more, gathered-all}
 use Rattle.figures.proofs.opponents.gather.Statement.{statement}
 use Rattle.figures.proofs.opponents.gather.Tie as tie
 
 abbrev Inv-loop : tie.InvT-loop
-Inv-loop meets group base step u₀ at₀ rest₀ j₀ u at rest j =
-    (j ≤ 32) × (rest ≡ group / 2 ^ j) × (at ≡ base + j * step) × Union meets group base step j u
+Inv-loop meets group base step u₀ at₀ rest₀ u at rest = Gathered meets group base step u at rest
 
 abbrev μ-loop : tie.MeasureT-loop
-μ-loop meets group base step u₀ at₀ rest₀ j₀ u at rest j = 32 - j
+μ-loop meets group base step u₀ at₀ rest₀ u at rest = rest
 
 loop-holds : tie.Need-loop-holds Inv-loop μ-loop
-loop-holds c =
-    let a = c .args in
-    (search needs, sym (div-one (a .group)), omega arith, no-union (now (a .meets)) (a .group) (a .base) (a .step))
+loop-holds c = gathered-none (now (c .args .meets)) (c .args .group) (c .args .base) (c .args .step)
 
-room : (c : tie.In-loop Inv-loop μ-loop) → c .before .loop .j * c .before .before .args .step ≤ 31 * c .before .before .args .step
-room c = mul-le-mul-right (c .before .before .args .step) (search needs)
+-- the next member's word is in the table
+room : (c : tie.In-loop Inv-loop μ-loop)
+    → let l = c .before .loop in
+    let z = trailingZeros 32 (l .rest) in
+    let a = c .before .before .args in
+    (z < 32) × (l .at + z * a .step ≤ a .base + 31 * a .step)
+room c = gathered-room (c .before .loop .inv) (search needs) (c .loop-test .taken)
 
-mul-u : tie.Need-mul-u Inv-loop μ-loop
-mul-u c = let r = room (c .before) in search needs
+cast-at : tie.Need-cast-at Inv-loop μ-loop
+cast-at c = let r = room c in search needs
 
-element-copy-out-u : tie.Need-element-copy-out-u Inv-loop μ-loop
-element-copy-out-u c = let r = room (c .before) in search needs
-
-add-j : tie.Need-add-j Inv-loop μ-loop
-add-j c = search needs
+mul-at : tie.Need-mul-at Inv-loop μ-loop
+mul-at c = let r = room c in search needs
 
 add-at : tie.Need-add-at Inv-loop μ-loop
-add-at c = let r = room (c .before) in search needs
+add-at c = let r = room c in search needs
+
+mul-u : tie.Need-mul-u Inv-loop μ-loop
+mul-u c = let r = room c in search needs
+
+element-copy-out-u : tie.Need-element-copy-out-u Inv-loop μ-loop
+element-copy-out-u c = let r = room c in search needs
+
+shr-rest : tie.Need-shr-rest Inv-loop μ-loop
+shr-rest c = let r = room (c .before) in search needs
+
+add-at-2 : tie.Need-add-at-2 Inv-loop μ-loop
+add-at-2 c = let r = room (c .before) in search needs
 
 loop-less : tie.Need-loop-less Inv-loop μ-loop
-loop-less c = search needs
+loop-less c = let l = c .before .before .loop in omega (arith, shr-le (l .rest) (trailingZeros 32 (l .rest)))
 
 loop-again : tie.Need-loop-again Inv-loop μ-loop
-loop-again c =
-    let l = c .before .before .loop in
-    let a = c .before .before .before .args in (
-      search needs,
-      ap (λ (n : ℕ). n / 2) (l .inv .1) ∙ shr-shr (a .group) (l .j) 1,
-      omega (arith, l .inv .2, add-mul (l .j) 1 (a .step)),
-      ⊎-elim
-          (λ w. joins (now (a .meets)) (a .group) (a .base) (a .step) (l .j) (l .u) (c .if1 .u) (l .inv .3) (l .inv .1) (l .inv .2) (w .0 .taken) (w .2))
-          (λ w. passes (now (a .meets)) (a .group) (a .base) (a .step) (l .j) (l .u) (c .if1 .u) (l .inv .3) (l .inv .1) (w .0 .left) (w .1))
-          (c .if1 .came),
-    )
+loop-again c = gathered-more (c .before .before .loop .inv) (search needs) (c .before .loop-test .taken)
 
 returns : tie.Need-returns Inv-loop μ-loop
-returns c = let e : c .before .loop .j ≡ 32 = omega arith in rw (← e) (c .before .loop .inv .3)
+returns c = gathered-all (c .before .loop .inv) (search needs)
 
 pub gather-spec : {M : Type 1} → statement M
 gather-spec =
@@ -65,10 +63,13 @@ gather-spec =
     Inv-loop
     μ-loop
     loop-holds
+    cast-at
+    mul-at
+    add-at
     mul-u
     element-copy-out-u
-    add-j
-    add-at
+    shr-rest
+    add-at-2
     loop-less
     loop-again
     returns)
