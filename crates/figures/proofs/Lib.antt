@@ -2,6 +2,7 @@ pub mod Ready
 pub mod Known
 pub mod Between
 pub mod Games
+pub mod Members
 pub mod Gathered
 pub mod Folds
 pub mod Meetings

@@ -1,6 +1,6 @@
 -- The meetings of two teams by the masks in which one hosts the other. Assumes nothing.
 use mathlib.Core.Path.{_≡_, refl, ap, _∙_}
-use mathlib.Core.Bool.{Bool, _||_}
+use mathlib.Core.Bool.{_||_}
 use mathlib.Core.List.{List}
 use Prim.Native.Nat.{ℕ, suc, _+_, _-_, _/_, _%_, _^_, _<_, _≤_}
 use native.Mathlib.Omega.{arith}
@@ -13,14 +13,14 @@ use Rattle.robinx.specs.Sums.{sumTo}
 use Rattle.robinx.specs.Groups.{bit, has}
 use Rattle.robinx.specs.Timetable.{meet}
 use Rattle.robinx.specs.Deviations.{tooClose}
-use Rattle.robinx.proofs.Ext.{sum-ext, lastSlot-ext}
 use Rattle.masks.proofs.Bits.{at-bits, or-has}
 use Rattle.masks.proofs.Width.{closeness-stop}
+use Rattle.masks.proofs.Walk.{close-ext}
 use Rattle.timetable.specs.Tables.{xOf, cell}
 use Rattle.figures.specs.Pairs.{closeness}
 
 -- a mask's first slots are its own
-front-has : (m P k : ℕ) → k < P → has (m % 2 ^ P) k ≡ has m k
+pub front-has : (m P k : ℕ) → k < P → has (m % 2 ^ P) k ≡ has m k
 front-has m P k l =
     let j = P - suc k in
     let e : P ≡ j + 1 + k = omega arith in
@@ -31,10 +31,6 @@ front-has m P k l =
 -- slot k is in one of the masks
 in-either : (m n k : ℕ) → has m k || has n k ≡ ltb 0 (bit m k + bit n k)
 in-either = at-bits (λ x y. eqb x 1 || eqb y 1 ≡ ltb 0 (x + y)) refl refl refl refl
-
-close-ext : {p q : ℕ → Bool} (w n : ℕ) → ((k : ℕ) → k < n → p k ≡ q k) → sumTo (tooClose p w) n ≡ sumTo (tooClose q w) n
-unfolding tooClose
-close-ext w n h = sum-ext n (λ k l. rw (h k l, lastSlot-ext k (λ a la. h a (omega arith))))
 
 pub pair-close : (meets : List ℕ) (w P i j : ℕ) → P ≤ 64
     → sumTo (tooClose (has (bitOr (getD meets (cell i j) 0) (getD meets (cell j i) 0) % 2 ^ P)) w) 64 ≡ closeness (xOf meets) w P i j

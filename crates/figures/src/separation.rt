@@ -1,7 +1,7 @@
 // SE1: how much closer than w slots the meetings of two teams are, for each pair of the group.
 ghost use mathlib.Core.Path.{_≡_};
 ghost use mathlib.Core.Bool.{true};
-ghost use Prim.Native.Nat.{ℕ, _+_, _<_, _≤_};
+ghost use Prim.Native.Nat.{_+_, _<_, _≤_};
 ghost use lib.ListN.{length};
 ghost use Rattle.robinx.specs.Groups.{has, pairs};
 ghost use Rattle.robinx.specs.Deviations.{devSE1};
@@ -10,7 +10,6 @@ ghost use Rattle.timetable.specs.Tables.{xOf};
 ghost use Rattle.figures.specs.Pairs.{closeness};
 use masks::closeness;
 use masks::front;
-use masks::is_in;
 use masks::union;
 use robinx::Constraint;
 
@@ -25,7 +24,7 @@ fn pair_closeness(meets: &[u64; 1024], w: u8, p: usize, i: usize, j: usize) -> u
     )
 }
 
-// The pairs of i with higher members, from place e on; the place behind them.
+// The pairs of i with higher members, from place e on; the place behind them. From one member to the next.
 fn fill_row(
     meets: &[u64; 1024],
     group: u32,
@@ -41,11 +40,13 @@ fn fill_row(
 {
     let mut at = e;
     let mut j = i + 1;
-    while j < n {
-        if is_in(group as u64, j as u64) {
-            out[at] = pair_closeness(meets, w, p, i, j);
-            at += 1;
-        }
+    let mut rest = (front(group as u64, n as u64) >> i) >> 1;
+    while rest != 0 {
+        let z = u64::trailing_zeros(rest);
+        j += z as usize;
+        out[at] = pair_closeness(meets, w, p, i, j);
+        at += 1;
+        rest = (rest >> z) >> 1;
         j += 1;
     }
     at
@@ -57,11 +58,13 @@ pub fn fill_separation(c: Constraint, n: usize, p: usize, meets: &[u64; 1024], o
     ensures { λ _. ⌜ now (out .exit) ≡ devSE1 n p c (xOf (now (meets .entry))) ⌝ }
 {
     let mut at = 0;
-    let mut i = 0;
-    while i < n {
-        if is_in(c.t1 as u64, i as u64) {
-            at = fill_row(meets, c.t1, c.w, n, p, i, at, out);
-        }
+    let mut i: usize = 0;
+    let mut rest = front(c.t1 as u64, n as u64);
+    while rest != 0 {
+        let z = u64::trailing_zeros(rest);
+        i += z as usize;
+        at = fill_row(meets, c.t1, c.w, n, p, i, at, out);
+        rest = (rest >> z) >> 1;
         i += 1;
     }
 }

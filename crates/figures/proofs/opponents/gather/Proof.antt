@@ -16,7 +16,7 @@ abbrev μ-loop : tie.MeasureT-loop
 μ-loop meets group base step u₀ at₀ rest₀ u at rest = rest
 
 loop-holds : tie.Need-loop-holds Inv-loop μ-loop
-loop-holds c = gathered-none (now (c .args .meets)) (c .args .group) (c .args .base) (c .args .step)
+loop-holds c = gathered-none (now (c .args .meets)) (c .args .group) (c .args .base) (c .args .step) (search needs)
 
 -- the next member's word is in the table
 room : (c : tie.In-loop Inv-loop μ-loop)
@@ -24,7 +24,7 @@ room : (c : tie.In-loop Inv-loop μ-loop)
     let z = trailingZeros 32 (l .rest) in
     let a = c .before .before .args in
     (z < 32) × (l .at + z * a .step ≤ a .base + 31 * a .step)
-room c = gathered-room (c .before .loop .inv) (search needs) (c .loop-test .taken)
+room c = gathered-room (c .before .loop .inv) (c .loop-test .taken)
 
 cast-at : tie.Need-cast-at Inv-loop μ-loop
 cast-at c = let r = room c in search needs
@@ -51,7 +51,7 @@ loop-less : tie.Need-loop-less Inv-loop μ-loop
 loop-less c = let l = c .before .before .loop in omega (arith, shr-le (l .rest) (trailingZeros 32 (l .rest)))
 
 loop-again : tie.Need-loop-again Inv-loop μ-loop
-loop-again c = gathered-more (c .before .before .loop .inv) (search needs) (c .before .loop-test .taken)
+loop-again c = gathered-more (c .before .before .loop .inv) (c .before .loop-test .taken)
 
 returns : tie.Need-returns Inv-loop μ-loop
 returns c = gathered-all (c .before .loop .inv) (search needs)

@@ -1,65 +1,75 @@
 -- `separation::fill_separation` meets its contract. Before each turn the pairs of members below i are in. Assumes nothing.
-use mathlib.Core.Path.{_≡_, sym, _∙_}
-use mathlib.Core.Logic.{⊎-elim}
-use Prim.Native.Nat.{_-_, _≤_}
-use native.Mathlib.Omega.{arith}
+use mathlib.Core.Path.{sym, _∙_}
+use Prim.Native.Nat.{_-_, _/_, _^_}
 use borrow.Author.Needs.{needs}
+use lib.Count.{trailingZeros}
 use Rattle.robinx.specs.Deviations.{devSE1}
-use Rattle.robinx.proofs.Filled.{FilledRows, rows-none, rows-skipped, rows-done}
+use Rattle.robinx.proofs.Filled.{FilledRows, rows-none, rows-done}
 use Rattle.timetable.specs.Tables.{xOf}
 use Rattle.figures.specs.Pairs.{closeness}
+use Rattle.figures.proofs.Members.{Ahead, ahead-all, Next, next, rows-to-next, rows-to-end}
 use Rattle.figures.proofs.separation.fill_separation.Statement.{statement}
 use Rattle.figures.proofs.separation.fill_separation.Tie as tie
 
 abbrev Inv-loop : tie.InvT-loop
-Inv-loop c n p meets out₀ at₀ i₀ out at i = (i ≤ n) × FilledRows n (c .t1) (closeness (xOf meets) (c .w) p) i at out
+Inv-loop c n p meets out₀ at₀ i₀ rest₀ out at i rest =
+    Ahead n (c .t1) i rest × FilledRows n (c .t1) (closeness (xOf meets) (c .w) p) i at out
 
 abbrev μ-loop : tie.MeasureT-loop
-μ-loop c n p meets out₀ at₀ i₀ out at i = n - i
+μ-loop c n p meets out₀ at₀ i₀ rest₀ out at i rest = n - i
+
+cast-front : tie.Need-cast-front Inv-loop μ-loop
+cast-front c = search needs
+
+front-requires : tie.Need-front-requires Inv-loop μ-loop
+front-requires c κs = search needs
 
 loop-holds : tie.Need-loop-holds Inv-loop μ-loop
-loop-holds c = (search needs, rows-none (c .before .pre .2))
+loop-holds c =
+    let s = c .before .before .before in
+    (rw (c .front .ensures) (ahead-all (s .args .n) (s .args .c .t1)), rows-none (s .pre .2))
 
-cast-is-in : tie.Need-cast-is-in Inv-loop μ-loop
-cast-is-in c = search needs
+-- the member of a turn
+member : (c : tie.In-loop Inv-loop μ-loop)
+    → let l = c .before .loop in
+    let a = c .before .before .before .before .before .args in
+    let z = trailingZeros 64 (l .rest) in
+    Next (a .n) (a .c .t1) (l .i) z (l .rest / 2 ^ z / 2)
+member c = next (c .before .loop .inv .0) 64 (search needs) (c .loop-test .taken)
 
-is-in-requires : tie.Need-is-in-requires Inv-loop μ-loop
-is-in-requires c κs = search needs
-
-fill-row-requires : tie.Need-fill-row-requires Inv-loop μ-loop
-fill-row-requires c κs = (
-  search needs,
-  search needs,
-  search needs,
-  sym (c .before .before .is-in .ensures) ∙ c .before .if1 .taken,
-  c .before .before .before .before .before .loop .inv .1,
-)
+cast-i : tie.Need-cast-i Inv-loop μ-loop
+cast-i c = let x = member c in search needs
 
 add-i : tie.Need-add-i Inv-loop μ-loop
-add-i c = search needs
+add-i c = let x = member c in search needs
+
+fill-row-requires : tie.Need-fill-row-requires Inv-loop μ-loop
+fill-row-requires c κs =
+    let x = member (c .before) in
+    let l = c .before .before .loop in
+    (search needs, search needs, x .room, x .member, rows-to-next (l .inv .1) x)
+
+cast-rest : tie.Need-cast-rest Inv-loop μ-loop
+cast-rest c = let x = member (c .before .before .before .before) in search needs
+
+shr-rest : tie.Need-shr-rest Inv-loop μ-loop
+shr-rest c = let x = member (c .before .before .before .before) in search needs
+
+add-i-2 : tie.Need-add-i-2 Inv-loop μ-loop
+add-i-2 c = let x = member (c .before .before .before .before) in search needs
 
 loop-less : tie.Need-loop-less Inv-loop μ-loop
-loop-less c = search needs
+loop-less c = let x = member (c .before .before .before .before) in search needs
 
 loop-again : tie.Need-loop-again Inv-loop μ-loop
-loop-again c = (
-  search needs,
-  ⊎-elim
-      (λ w. rw (w .5, w .6) (w .2 .ensures))
-      (λ w. rw (w .1, w .2)
-      (rows-skipped (c .before .before .before .before .loop .inv .1) (sym (c .before .is-in .ensures) ∙ w .0 .left)))
-      (c .if1 .came),
-)
+loop-again c = let x = member (c .before .before .before .before) in (x .ahead, c .before .before .fill-row .ensures)
 
 same-length : tie.Need-same-length Inv-loop μ-loop
-same-length c = c .before .loop .inv .1 .filled .long ∙ sym (c .before .before .before .pre .2)
+same-length c = c .before .loop .inv .1 .filled .long ∙ sym (c .before .before .before .before .before .pre .2)
 
 returns : tie.Need-returns Inv-loop μ-loop
 unfolding devSE1
-returns c =
-    let l = c .before .loop in
-    let e : l .i ≡ c .before .before .before .args .n = omega (arith, c .loop-test .left, l .inv .0) in
-    rows-done (rw e at (l .inv .1))
+returns c = let l = c .before .loop in rows-done (rows-to-end (l .inv .1) (l .inv .0) (search needs))
 
 pub fill-separation-spec : {M : Type 1} → statement M
 fill-separation-spec =
@@ -67,11 +77,15 @@ fill-separation-spec =
     (tie.spec
     Inv-loop
     μ-loop
+    cast-front
+    front-requires
     loop-holds
-    cast-is-in
-    is-in-requires
-    fill-row-requires
+    cast-i
     add-i
+    fill-row-requires
+    cast-rest
+    shr-rest
+    add-i-2
     loop-less
     loop-again
     same-length
