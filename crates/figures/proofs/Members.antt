@@ -4,11 +4,13 @@ use mathlib.Core.List.{List}
 use mathlib.Core.Bool.{true, false}
 use Prim.Native.Nat.{ℕ, _+_, _/_, _%_, _^_, _<_, _≤_}
 use native.Mathlib.Omega.{arith}
-use native.Mathlib.Nat.{div-one, mod-lt, mod-eq-of-lt}
+use native.Mathlib.Nat.{add-zero, div-one, mod-lt, mod-eq-of-lt}
 use lib.Count.{trailingZeros}
 use lib.Pow.{pow-pos, pow-mono, shr-shr}
+use Rattle.robinx.specs.Sums.{sumTo, only}
 use Rattle.robinx.specs.Groups.{has}
-use Rattle.robinx.proofs.Filled.{FilledRow, FilledRows, row-skipped, rows-skipped}
+use Rattle.robinx.proofs.Sums.{sum-step}
+use Rattle.robinx.proofs.Filled.{FilledEach, FilledRow, FilledRows, each-skipped, row-skipped, rows-skipped}
 use Rattle.masks.proofs.Width.{in-below, passed}
 use Rattle.masks.proofs.Walk.{turn, none-left}
 use Rattle.figures.proofs.Meetings.{front-has}
@@ -61,16 +63,39 @@ module _ (F : ℕ → Type 0) {n T : ℕ} (skip : (j : ℕ) → has T j ≡ fals
   pub to-end : {rest : ℕ} → Ahead n T k rest → rest ≡ 0 → F n
   to-end a e = passed k n (a .low) F (λ j p q. skip j (none-ahead a e j p q)) f
 
--- .. of a stretch that is filled with a figure for each pair of members
-module _ {n T : ℕ} {f : ℕ → ℕ → ℕ} {k e : ℕ} {out : List ℕ} where
-  pub row-to-next : {i z rest : ℕ} → FilledRow n T f i k e out → Next n T k z rest → FilledRow n T f i (k + z) e out
-  row-to-next {i} r = to-next (λ j. FilledRow n T f i j e out) (λ j h q. row-skipped q h) r
+-- .. of a sum over the members
+module _ (T : ℕ) (g : ℕ → ℕ) where
+  abbrev summed : ℕ → ℕ
+  summed = sumTo (λ j. only (has T j) (g j))
 
-  pub row-to-end : {i rest : ℕ} → FilledRow n T f i k e out → Ahead n T k rest → rest ≡ 0 → FilledRow n T f i n e out
-  row-to-end {i} r = to-end (λ j. FilledRow n T f i j e out) (λ j h q. row-skipped q h) r
+  no-term : (v j : ℕ) → has T j ≡ false → v ≡ summed j → v ≡ summed (j + 1)
+  no-term v j h e = rw (sum-step, h, add-zero) e
 
-  pub rows-to-next : {z rest : ℕ} → FilledRows n T f k e out → Next n T k z rest → FilledRows n T f (k + z) e out
-  rows-to-next r = to-next (λ j. FilledRows n T f j e out) (λ j h q. rows-skipped q h) r
+  pub sum-more : {n v k z rest r : ℕ} → v ≡ summed k → Next n T k z rest → r ≡ g (k + z) → v + r ≡ summed (k + z + 1)
+  sum-more {v = v} e x p = rw (sum-step, x .member, ← to-next (λ j. v ≡ summed j) (no-term v) e x, ← p)
 
-  pub rows-to-end : {rest : ℕ} → FilledRows n T f k e out → Ahead n T k rest → rest ≡ 0 → FilledRows n T f n e out
-  rows-to-end r = to-end (λ j. FilledRows n T f j e out) (λ j h q. rows-skipped q h) r
+  pub sum-to-end : {n v k rest : ℕ} → v ≡ summed k → Ahead n T k rest → rest ≡ 0 → v ≡ summed n
+  sum-to-end {v = v} e = to-end (λ j. v ≡ summed j) (no-term v) e
+
+-- .. of a stretch that is filled with a figure for each member
+module _ {n T : ℕ} {f : ℕ → ℕ} {k e rest : ℕ} {out : List ℕ} (r : FilledEach n T f k e out) where
+  pub each-to-next : {z : ℕ} → Next n T k z rest → FilledEach n T f (k + z) e out
+  each-to-next = to-next (λ j. FilledEach n T f j e out) (λ j h q. each-skipped q h) r
+
+  pub each-to-end : Ahead n T k rest → rest ≡ 0 → FilledEach n T f n e out
+  each-to-end = to-end (λ j. FilledEach n T f j e out) (λ j h q. each-skipped q h) r
+
+-- .. or for each pair of members
+module _ {n T : ℕ} {f : ℕ → ℕ → ℕ} {i k e rest : ℕ} {out : List ℕ} (r : FilledRow n T f i k e out) where
+  pub row-to-next : {z : ℕ} → Next n T k z rest → FilledRow n T f i (k + z) e out
+  row-to-next = to-next (λ j. FilledRow n T f i j e out) (λ j h q. row-skipped q h) r
+
+  pub row-to-end : Ahead n T k rest → rest ≡ 0 → FilledRow n T f i n e out
+  row-to-end = to-end (λ j. FilledRow n T f i j e out) (λ j h q. row-skipped q h) r
+
+module _ {n T : ℕ} {f : ℕ → ℕ → ℕ} {k e rest : ℕ} {out : List ℕ} (r : FilledRows n T f k e out) where
+  pub rows-to-next : {z : ℕ} → Next n T k z rest → FilledRows n T f (k + z) e out
+  rows-to-next = to-next (λ j. FilledRows n T f j e out) (λ j h q. rows-skipped q h) r
+
+  pub rows-to-end : Ahead n T k rest → rest ≡ 0 → FilledRows n T f n e out
+  rows-to-end = to-end (λ j. FilledRows n T f j e out) (λ j h q. rows-skipped q h) r

@@ -17,7 +17,6 @@ use crate::measure::first_modes;
 use crate::measure::less;
 use crate::measure::mode_sides;
 use masks::breaks_in;
-use masks::is_in;
 use masks::union;
 use robinx::Constraint;
 
@@ -60,7 +59,7 @@ fn off_target(mode: u8, kmax: u8, v: u32) -> u32
     less(kmax as u32, v) + more
 }
 
-// The deviations of BR1.
+// The deviations of BR1, from one team of the group to the next.
 pub fn fill_breaks(
     c: Constraint,
     n: usize,
@@ -74,12 +73,14 @@ pub fn fill_breaks(
     ensures { λ _. ⌜ now (out .exit) ≡ devBR1 n p c (xOf (now (meets .entry))) ⌝ }
 {
     let mut e = 0;
-    let mut t = 0;
-    while t < n {
-        if is_in(c.t1 as u64, t as u64) {
-            out[e] = off_target(c.mode, c.kmax, team_breaks(c, n, p, home, away, meets, t));
-            e += 1;
-        }
+    let mut t: usize = 0;
+    let mut rest = c.t1;
+    while rest != 0 {
+        let z = u32::trailing_zeros(rest);
+        t += z as usize;
+        out[e] = off_target(c.mode, c.kmax, team_breaks(c, n, p, home, away, meets, t));
+        e += 1;
+        rest = (rest >> z) >> 1;
         t += 1;
     }
 }
@@ -97,11 +98,13 @@ fn group_breaks(
     ensures { λ r. ⌜ r ≡ sumTo (λ t. only (has (c .t1) t) (breaks n p c (xOf (now (meets .entry))) t)) n ⌝ }
 {
     let mut v: u32 = 0;
-    let mut t = 0;
-    while t < n {
-        if is_in(c.t1 as u64, t as u64) {
-            v += team_breaks(c, n, p, home, away, meets, t);
-        }
+    let mut t: usize = 0;
+    let mut rest = c.t1;
+    while rest != 0 {
+        let z = u32::trailing_zeros(rest);
+        t += z as usize;
+        v += team_breaks(c, n, p, home, away, meets, t);
+        rest = (rest >> z) >> 1;
         t += 1;
     }
     v
