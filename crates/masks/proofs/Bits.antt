@@ -1,13 +1,13 @@
 -- Bits of and, or, xor, of a single slot and of shifted numbers, for numbers of any width. Assumes nothing.
 use mathlib.Core.Path.{_≡_, refl, sym, ap, ap₂, _∙_}
 use mathlib.Core.Bool.{Bool, true, false, _&&_, _||_}
-use Prim.Native.Nat.{ℕ, zero, suc, _+_, _*_, _/_, _%_, _^_, _<_, min, max, compare·suc-suc}
+use Prim.Native.Nat.{ℕ, zero, suc, _+_, _-_, _*_, _/_, _%_, _^_, _<_, min, max, compare·suc-suc}
 use native.Mathlib.Omega.{arith}
 use native.Mathlib.Numerals.{add-one}
 use native.Mathlib.Nat.{mod-lt, pow-suc, mul-div-mul-right, div-one, div-eq-of-lt, mul-mod-left, zero-lt-suc, zero-div, add-comm}
 use lib.Arith.{digits-mod}
 use lib.Bits.{differ, bitAnd, bitOr, bitXor, and-shr, or-shr, xor-shr, and-step, or-step, xor-step}
-use lib.Pow.{pow-lt, shr-shr, shl-exact}
+use lib.Pow.{pow-lt, shr-shr, shl-exact, field, mod-mod-pow}
 use lib.Dec.{eqb, isEq, lit<}
 use borrow.Author.Tests.{eqb-true, ne-eqb}
 use Rattle.robinx.specs.Sums.{only}
@@ -83,6 +83,13 @@ shift-bit m k a = ap (λ (z : ℕ). z % 2) (shr-shr m k a)
 
 pub half-bit : (m k : ℕ) → bit (m / 2) k ≡ bit m (suc k)
 half-bit m k = shift-bit m 1 k ∙ ap (bit m) (add-comm 1 k ∙ add-one k)
+
+-- bits below a modulus
+pub mod-bit : (K k n : ℕ) → k < K → bit (n % 2 ^ K) k ≡ bit n k
+mod-bit K k n l =
+    let e : K ≡ (K - suc k + 1) + k = omega arith in
+    ap (λ (z : ℕ). n % 2 ^ z / 2 ^ k % 2) e ∙ ap (λ (z : ℕ). z % 2) (field n (K - suc k + 1) k)
+    ∙ mod-mod-pow (n / 2 ^ k) (K - suc k) 1
 
 -- 1 << k
 pub one-shl : (k : ℕ) → k < 64 → (1 * 2 ^ k) % 2 ^ 64 ≡ 2 ^ k

@@ -8,7 +8,7 @@ use native.Mathlib.Omega.{arith}
 use native.Mathlib.Numerals.{add-one}
 use native.Mathlib.Nat.{pow-suc, div-one}
 use lib.Bits.{bitAnd, bitOr}
-use lib.Pow.{shr-shr, field, mod-mod-pow}
+use lib.Pow.{shr-shr}
 use lib.Dec.{eqb}
 use Rattle.robinx.specs.Sums.{only}
 use Rattle.robinx.specs.Groups.{bit, has}
@@ -16,7 +16,7 @@ use Rattle.robinx.specs.Timetable.{lastWas}
 use Rattle.robinx.proofs.Sums.{only-le}
 use Rattle.robinx.proofs.Ext.{lastWas-ext}
 use Rattle.masks.specs.Masks.{Within, isBreak}
-use Rattle.masks.proofs.Bits.{at-bits, and-bit, or-bit, half-bit}
+use Rattle.masks.proofs.Bits.{at-bits, and-bit, or-bit, half-bit, mod-bit}
 
 -- bits of the complement
 comp-bit : (k K w : ℕ) → k < K → w < 2 ^ K → bit (2 ^ K - 1 - w) k ≡ 1 - bit w k
@@ -27,13 +27,6 @@ comp-bit (suc k) (suc K) w l h =
     sym (half-bit (2 ^ suc K - 1 - w) k) ∙ ap (λ (z : ℕ). bit z k) e
     ∙ comp-bit k K (w / 2) (omega arith) (omega (arith, pow-suc 2 K))
     ∙ ap (λ (z : ℕ). 1 - z) (half-bit w k)
-
--- bits below a modulus
-mod-bit : (K k n : ℕ) → k < K → bit (n % 2 ^ K) k ≡ bit n k
-mod-bit K k n l =
-    let e : K ≡ (K - suc k + 1) + k = omega arith in
-    ap (λ (z : ℕ). n % 2 ^ z / 2 ^ k % 2) e ∙ ap (λ (z : ℕ). z % 2) (field n (K - suc k + 1) k)
-    ∙ mod-mod-pow (n / 2 ^ k) (K - suc k) 1
 
 shr-suc : (n k : ℕ) → n / 2 ^ suc k ≡ n / 2 ^ k / 2
 shr-suc n k = ap (λ (z : ℕ). n / 2 ^ z) (sym (add-one k)) ∙ sym (shr-shr n k 1)

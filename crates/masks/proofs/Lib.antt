@@ -6,3 +6,4 @@ pub mod Counts
 pub mod Carry
 pub mod Walk
 pub mod Rows
+pub mod Bytes

@@ -41,7 +41,7 @@ laid-holds row f (suc k) l =
     rw (← add-one) (holds-more (laid row f k) f k (omega (arith, laid-length row f k)) (laid-holds row f k (omega arith)))
 
 -- a sum in two parts
-sum-split : (f : ℕ → ℕ) (a w : ℕ) → sumTo f (a + w) ≡ sumTo f a + sumTo (λ d. f (a + d)) w
+pub sum-split : (f : ℕ → ℕ) (a w : ℕ) → sumTo f (a + w) ≡ sumTo f a + sumTo (λ d. f (a + d)) w
 unfolding sumTo
 sum-split f a zero = rw (add-zero a) (omega arith)
 sum-split f a (suc w) = rw (add-suc a w) (omega (arith, sum-split f a w))
@@ -86,6 +86,15 @@ pub laidAt-ext : (rows : List ℕ) (a : ℕ) {f g : ℕ → ℕ} (n : ℕ) → (
 unfolding laidAt
 laidAt-ext rows a zero h = refl
 laidAt-ext rows a (suc n) h = ap₂ (λ (l : List ℕ) (v : ℕ). set l (a + n) v) (laidAt-ext rows a n (λ k l. h k (omega arith))) (h n (omega arith))
+
+-- a row that is laid in two parts
+pub laidAt-on : (rows : List ℕ) (a k : ℕ) (f g : ℕ → ℕ) (n : ℕ) → ((j : ℕ) → j < n → g j ≡ f (k + j))
+    → laidAt (laidAt rows a f k) (a + k) g n ≡ laidAt rows a f (k + n)
+unfolding laidAt
+laidAt-on rows a k f g zero h = ap (laidAt rows a f) (sym (add-zero k))
+laidAt-on rows a k f g (suc n) h =
+    let e : a + k + n ≡ a + (k + n) = omega arith in
+    rw (add-suc k n, h n (omega arith), laidAt-on rows a k f g n (λ j l. h j (omega arith)), e) refl
 
 -- the largest distance of equal counts, and over the slots of a mask
 pub farthest-ext : (e : List ℕ) {f f′ g g′ : ℕ → ℕ} (n : ℕ) → ((k : ℕ) → k < n → f k ≡ f′ k) → ((k : ℕ) → k < n → g k ≡ g′ k)

@@ -1,7 +1,7 @@
 -- Rows of bytes, a place for each slot, and what is read off them.
 use mathlib.Core.List.{List}
 use mathlib.Core.Path.{_≡_}
-use Prim.Native.Nat.{ℕ, zero, suc, _+_, _-_, _<_}
+use Prim.Native.Nat.{ℕ, zero, suc, _+_, _-_, _*_, _/_, _%_, _^_, _<_}
 use lib.Dec.{eqb}
 use lib.ListN.{getD, set}
 use Rattle.robinx.specs.Sums.{sumTo, maxTo, only, dist}
@@ -31,6 +31,14 @@ laidAt rows a f (suc k) = set (laidAt rows a f k) (a + k) (f k)
 -- how many of the slots up to k the mask has
 abbrev pub upTo : ℕ → ℕ → ℕ
 upTo v k = sumTo (bit v) (suc k)
+
+-- Rows in words, a byte for a place: the word of f 0, .., f (n − 1), the first lowest, and what byte j of a word is
+unfoldable pub packed : (ℕ → ℕ) → ℕ → ℕ
+packed f zero = 0
+packed f (suc n) = f 0 + packed (λ j. f (suc j)) n * 256
+
+abbrev pub byte : ℕ → ℕ → ℕ
+byte w j = w / 2 ^ (j * 8) % 256
 
 -- the largest distance of f and g at the places that the row e has as 1, of the first n
 unfoldable pub farthestTo : List ℕ → (ℕ → ℕ) → (ℕ → ℕ) → ℕ → ℕ

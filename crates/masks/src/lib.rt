@@ -7,7 +7,7 @@ ghost use Rattle.robinx.specs.Sums.{only, sumTo, dist};
 ghost use Rattle.robinx.specs.Groups.{bit, has, reaches};
 ghost use Rattle.robinx.specs.Deviations.{over, outside, tooClose};
 ghost use Rattle.masks.specs.Masks.{joined, without, Within, isBreak, Breaks};
-ghost use Rattle.masks.specs.Rows.{rowAt, upTo, laid, laidAt, farthestTo, runsTo};
+ghost use Rattle.masks.specs.Rows.{rowAt, upTo, laid, laidAt, packed, byte, farthestTo, runsTo};
 
 // Slot k is in the mask.
 pub fn is_in(s: u64, k: u64) -> bool
@@ -142,18 +142,45 @@ pub fn lay(v: u64, row: &mut [u8; 65])
     row[64] = q;
 }
 
-// A row among many, from place a on: how many slots of v there are up to each slot.
+// The running counts of a byte's slots, a byte for each.
+fn eight(b: u64) -> u64
+    requires { ⌜ b < 256 ⌝ }
+    ensures { λ r. ⌜ r ≡ packed (upTo b) 8 ⌝ }
+{
+    // byte j has bit j at its own place, then as 0 or 1; then each byte is the sum of the two, four and eight bytes up to it
+    let own = (b * 0x0101010101010101) & 0x8040201008040201;
+    let one = ((own + 0x00406070787c7e7f) >> 7) & 0x0101010101010101;
+    let two = one + (one << 8);
+    let four = two + (two << 16);
+    four + (four << 32)
+}
+
+// The bytes of a word, laid from place a on.
+fn lay_eight(w: u64, rows: &mut [u8; 2048], a: usize)
+    requires { ⌜ a ≤ 2040 ⌝ }
+    ensures { λ _. ⌜ now (rows .exit) ≡ laidAt (now (rows .entry)) a (byte w) 8 ⌝ }
+{
+    let mut j: usize = 0;
+    while j < 8 {
+        rows[a + j] = ((w >> (j * 8)) % 256) as u8;
+        j += 1;
+    }
+}
+
+// A row among many, from place a on: how many slots of v there are up to each slot. Eight at a time, with the count before them added to each.
 pub fn lay_at(v: u64, rows: &mut [u8; 2048], a: usize)
     requires { ⌜ a ≤ 1984 ⌝ }
     ensures { λ _. ⌜ now (rows .exit) ≡ laidAt (now (rows .entry)) a (upTo v) 64 ⌝ }
 {
-    let mut q: u8 = 0;
-    let mut k = 0;
+    let mut q: u64 = 0;
+    let mut rest = v;
+    let mut k: usize = 0;
     while k < 64 {
-        let one = ((v >> k) % 2) as u8;
-        rows[a + k] = q + one;
-        q += one;
-        k += 1;
+        let w = eight(rest % 256) + q * 0x0101010101010101;
+        lay_eight(w, rows, a + k);
+        q = w >> 56;
+        rest = rest >> 8;
+        k += 8;
     }
 }
 
