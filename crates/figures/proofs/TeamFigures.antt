@@ -7,9 +7,8 @@ use native.Mathlib.Omega.{arith}
 use native.Mathlib.Decide.{ℕ-discrete}
 use native.Mathlib.Numerals.{add-one}
 use lib.Dec.{eqb}
-use lib.ListN.{length}
+use lib.ListN.{length, getD}
 use lib.Pow.{ones-lt}
-use Rattle.robinx.specs.Sums.{sumTo}
 use Rattle.robinx.specs.Groups.{bit, size}
 use Rattle.robinx.specs.Timetable.{X, side}
 use Rattle.robinx.specs.Kinds.{kindOf}
@@ -19,10 +18,10 @@ use Rattle.robinx.proofs.Sums.{sum-zero}
 use Rattle.robinx.proofs.Ext.{sum-ext, over-ext, each-ext}
 use Rattle.robinx.proofs.Lengths.{length-each, length-deviations}
 use Rattle.robinx.proofs.Limits.{Obeys}
-use Rattle.masks.specs.Rows.{laid, runsTo}
+use Rattle.masks.specs.Rows.{upTo, laidAt, runsTo}
 use Rattle.masks.proofs.Width.{over-stop}
-use Rattle.masks.proofs.Rows.{laid-holds, runs-of}
-use Rattle.figures.specs.Games.{MaskOf, rivals, offCount, offRuns, teamFigure}
+use Rattle.masks.proofs.Rows.{laidAt-length, laidAt-other, counts-before, runs-of}
+use Rattle.figures.specs.Games.{MaskOf, FromZero, rivals, offCount, offRuns, teamFigure}
 use Rattle.figures.proofs.Games.{against-all}
 
 -- a mask's count is that of the games it stands for
@@ -40,12 +39,17 @@ run-games P c m l e =
 pub no-runs : (P : ℕ) (c : Constraint) (f : ℕ → ℕ) → P < c .w → offRuns P c f ≡ 0
 no-runs P c f h = let e : suc P - c .w ≡ 0 = omega arith in sum-zero (suc P - c .w) (λ a l. absurd (omega arith))
 
--- the row of a mask's counts shows its runs
-pub runs-laid : (P : ℕ) (c : Constraint) (m : ℕ) (before row : List ℕ) → length before ≡ 65 → row ≡ laid before (sumTo (bit m)) 65
-    → c .w ≤ P → P ≤ 64 → runsTo row (c .w) (c .kmin) (c .kmax) (P + 1 - c .w) ≡ offRuns P c (bit m)
-runs-laid P c m before row long e w l =
-    ap (λ (k : ℕ). runsTo row (c .w) (c .kmin) (c .kmax) (k - c .w)) (add-one P)
-    ∙ runs-of row m (c .w) (c .kmin) (c .kmax) (suc P - c .w) (omega arith) (rw e (laid-holds before (sumTo (bit m)) 65 (omega arith)))
+-- the row of a mask's counts shows its runs, and leaves place 0
+pub runs-laid : (P : ℕ) (c : Constraint) (m : ℕ) (before : List ℕ) {row : List ℕ} → FromZero before → row ≡ laidAt before 1 (upTo m) 64
+    → c .w ≤ P → P ≤ 64 → (runsTo row (c .w) (c .kmin) (c .kmax) (P + 1 - c .w) ≡ offRuns P c (bit m)) × FromZero row
+runs-laid P c m before {row} z e w l = (
+  ap (λ (k : ℕ). runsTo row (c .w) (c .kmin) (c .kmax) (k - c .w)) (add-one P)
+      ∙ runs-of row m (c .w) (c .kmin) (c .kmax) (suc P - c .w) (omega arith) (rw e (counts-before before m (omega arith) (z .first))),
+  record {
+    long = ap length e ∙ laidAt-length before 1 (upTo m) 64 ∙ z .long;
+    first = ap (λ (r : List ℕ). getD r 0 0) e ∙ laidAt-other before 1 (upTo m) 64 0 (λ k l e. omega arith) ∙ z .first;
+  },
+)
 
 pub rivals-small : {n P : ℕ} {c : Constraint} → Obeys n P c → rivals n c < 2 ^ n
 rivals-small {n} {P} {c} o = go (eqb (c .kind) 11)

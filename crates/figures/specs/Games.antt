@@ -5,7 +5,7 @@ use mathlib.Core.Bool.{Bool, cond}
 use Prim.Native.Nat.{ℕ, suc, _+_, _-_, _*_, _^_, _<_}
 use lib.Bits.{bitOr}
 use lib.Dec.{eqb}
-use lib.ListN.{getD}
+use lib.ListN.{length, getD}
 use Rattle.robinx.specs.Sums.{sumTo, maxTo, only}
 use Rattle.robinx.specs.Groups.{bit, has}
 use Rattle.robinx.specs.Timetable.{X, side, gamesAgainst}
@@ -38,6 +38,11 @@ offCount P c f = outside (c .kmin) (c .kmax) (over P (c .s) f)
 
 abbrev pub offRuns : ℕ → Constraint → (ℕ → ℕ) → ℕ
 offRuns P c f = sumTo (λ a. outside (c .kmin) (c .kmax) (inRun f (c .w) a)) (suc P - c .w)
+
+-- a table for running counts from place 1 on: the count before the first slot, at place 0, is 0
+pub record FromZero (rows : List ℕ) : Type 0 where
+  pub long : length rows ≡ 2048
+  pub first : getD rows 0 0 ≡ 0
 
 -- the teams against which games count: all in CA1, else T2
 abbrev pub rivals : ℕ → Constraint → ℕ

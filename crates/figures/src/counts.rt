@@ -7,14 +7,14 @@ ghost use Rattle.robinx.specs.Rules.{obeys};
 ghost use Rattle.robinx.specs.Deviations.{deviations};
 ghost use Rattle.timetable.specs.Tables.{Tied, xOf};
 ghost use Rattle.figures.specs.Figures.{Ready};
-ghost use Rattle.figures.specs.Games.{rivals, offRuns, teamFigure};
+ghost use Rattle.figures.specs.Games.{FromZero, rivals, offRuns, teamFigure};
 use crate::measure::mode_sides;
 use crate::measure::outside;
 use crate::opponents::against;
 use crate::opponents::everyone;
 use masks::count_in;
 use masks::is_in;
-use masks::lay;
+use masks::lay_at;
 use masks::runs;
 use robinx::Constraint;
 
@@ -27,17 +27,16 @@ fn rivals(c: Constraint, n: usize) -> u32
 }
 
 // How far the mask's counts in the runs of w of the first p slots are outside kmin .. kmax, summed.
-fn runs_of(c: Constraint, p: usize, mask: u64) -> u32
-    requires { ⌜ p ≤ 64 ⌝ }
-    ensures { λ r. ⌜ r ≡ offRuns p c (bit mask) ⌝ }
+fn runs_of(c: Constraint, p: usize, mask: u64, rows: &mut [u8; 2048]) -> u32
+    requires { ⌜ (p ≤ 64) × FromZero (now rows) ⌝ }
+    ensures { λ r. ⌜ (r ≡ offRuns p c (bit mask)) × FromZero (now (rows .exit)) ⌝ }
 {
     let w = c.w as usize;
     if p < w {
         return 0;
     }
-    let mut row = [0u8; 65];
-    lay(mask, &mut row);
-    runs(&row, w, c.kmin, c.kmax, p + 1 - w)
+    lay_at(mask, rows, 1);
+    runs(rows, w, c.kmin, c.kmax, p + 1 - w)
 }
 
 // A team's figure.
@@ -48,14 +47,15 @@ fn figure_of(
     home: &[u64; 32],
     away: &[u64; 32],
     meets: &[u64; 1024],
+    rows: &mut [u8; 2048],
     t: usize,
 ) -> u32
-    requires { ⌜ (n ≤ 32) × (p ≤ 64) × (t < n) × (obeys n p c ≡ true) × Tied n (now home) (now away) (now meets) ⌝ }
-    ensures { λ r. ⌜ r ≡ teamFigure n p c (xOf (now (meets .entry))) t ⌝ }
+    requires { ⌜ (n ≤ 32) × (p ≤ 64) × (t < n) × (obeys n p c ≡ true) × Tied n (now home) (now away) (now meets) × FromZero (now rows) ⌝ }
+    ensures { λ r. ⌜ (r ≡ teamFigure n p c (xOf (now (meets .entry))) t) × FromZero (now (rows .exit)) ⌝ }
 {
     let mask = against(meets, home, away, mode_sides(c.mode), rivals(c, n), t, n);
     if c.kind == 13 {
-        return runs_of(c, p, mask);
+        return runs_of(c, p, mask, rows);
     }
     outside(c.kmin, c.kmax, count_in(mask, c.s))
 }
@@ -73,11 +73,13 @@ pub fn fill_counts(
     requires { ⌜ Ready n p c (now home) (now away) (now meets) (now out) × (11 ≤ c .kind) × (c .kind ≤ 13) ⌝ }
     ensures { λ _. ⌜ now (out .exit) ≡ deviations n p c (xOf (now (meets .entry))) ⌝ }
 {
+    // for CA3's running counts, from place 1 on
+    let mut rows = [0u8; 2048];
     let mut e = 0;
     let mut t = 0;
     while t < n {
         if is_in(c.t1 as u64, t as u64) {
-            out[e] = figure_of(c, n, p, home, away, meets, t);
+            out[e] = figure_of(c, n, p, home, away, meets, &mut rows, t);
             e += 1;
         }
         t += 1;

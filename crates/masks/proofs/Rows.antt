@@ -14,7 +14,7 @@ use Rattle.robinx.specs.Sums.{sumTo, maxTo, only, dist}
 use Rattle.robinx.specs.Groups.{bit, has}
 use Rattle.robinx.specs.Deviations.{worst, outside, inRun}
 use Rattle.robinx.proofs.Ext.{sum-ext, max-ext}
-use Rattle.masks.specs.Rows.{Holds, laid, HoldsAt, laidAt, farthestTo, runsTo}
+use Rattle.masks.specs.Rows.{Holds, laid, HoldsAt, upTo, laidAt, farthestTo, runsTo}
 use Rattle.masks.proofs.Width.{worst-stop}
 
 -- one place more
@@ -86,6 +86,14 @@ pub laidAt-ext : (rows : List ℕ) (a : ℕ) {f g : ℕ → ℕ} (n : ℕ) → (
 unfolding laidAt
 laidAt-ext rows a zero h = refl
 laidAt-ext rows a (suc n) h = ap₂ (λ (l : List ℕ) (v : ℕ). set l (a + n) v) (laidAt-ext rows a n (λ k l. h k (omega arith))) (h n (omega arith))
+
+-- a row of counts, behind a 0: the counts before each place
+pub counts-before : (rows : List ℕ) (v : ℕ) → 65 ≤ length rows → getD rows 0 0 ≡ 0 → Holds (laidAt rows 1 (upTo v) 64) (sumTo (bit v)) 65
+unfolding sumTo
+counts-before rows v l e zero lk = laidAt-other rows 1 (upTo v) 64 0 (λ k lk e. omega arith) ∙ e
+counts-before rows v l e (suc k) lk =
+    let i : suc k ≡ 1 + k = omega arith in
+    ap (λ (i : ℕ). getD (laidAt rows 1 (upTo v) 64) i 0) i ∙ laidAt-holds rows 1 (upTo v) 64 (omega arith) k (omega arith)
 
 -- a row that is laid in two parts
 pub laidAt-on : (rows : List ℕ) (a k : ℕ) (f g : ℕ → ℕ) (n : ℕ) → ((j : ℕ) → j < n → g j ≡ f (k + j))

@@ -128,20 +128,6 @@ pub fn spread(s: u64, row: &mut [u8; 64])
     }
 }
 
-// A row of running counts: how many slots of v are before each place from 0 to 64.
-pub fn lay(v: u64, row: &mut [u8; 65])
-    ensures { λ _. ⌜ now (row .exit) ≡ laid (now (row .entry)) (sumTo (bit v)) 65 ⌝ }
-{
-    let mut q: u8 = 0;
-    let mut k = 0;
-    while k < 64 {
-        row[k] = q;
-        q += ((v >> k) % 2) as u8;
-        k += 1;
-    }
-    row[64] = q;
-}
-
 // The running counts of a byte's slots, a byte for each.
 fn eight(b: u64) -> u64
     requires { ⌜ b < 256 ⌝ }
@@ -155,7 +141,7 @@ fn eight(b: u64) -> u64
     four + (four << 32)
 }
 
-// The bytes of a word, laid from place a on.
+// The bytes of a word, laid from place a on: the compiler makes one store of them.
 fn lay_eight(w: u64, rows: &mut [u8; 2048], a: usize)
     requires { ⌜ a ≤ 2040 ⌝ }
     ensures { λ _. ⌜ now (rows .exit) ≡ laidAt (now (rows .entry)) a (byte w) 8 ⌝ }
@@ -231,8 +217,8 @@ fn off(low: u8, high: u8, c: u8) -> u8
     larger(less(low, c), less(c, high))
 }
 
-// How far the counts of the first n runs of w slots are outside low .. high, summed.
-pub fn runs(row: &[u8; 65], w: usize, low: u8, high: u8, n: usize) -> u32
+// How far the counts of the first n runs of w slots are outside low .. high, summed. Place k of the row has the count before slot k.
+pub fn runs(row: &[u8; 2048], w: usize, low: u8, high: u8, n: usize) -> u32
     requires { ⌜ n ≤ 65 - w ⌝ }
     ensures { λ r. ⌜ r ≡ runsTo (now (row .entry)) w low high n ⌝ }
 {

@@ -38,10 +38,10 @@ runs-of-requires c κs = search needs
 
 returns : tie.Need-returns
 returns c =
-    let m = c .before .before .before in
+    let m = c .before .before .before .before in
     let s = m .before .before .before in
-    rw (eq-eqb (s .args .c .kind) 13 (c .before .if1 .taken))
-    (c .runs-of .ensures ∙ run-games (s .args .p) (s .args .c) (m .against .result) (s .pre .1) (counted m))
+    rw (eq-eqb (s .args .c .kind) 13 (c .before .before .if1 .taken))
+    (c .runs-of .ensures .0 ∙ run-games (s .args .p) (s .args .c) (m .against .result) (s .pre .1) (counted m), c .runs-of .ensures .1)
 
 count-in-requires : tie.Need-count-in-requires
 count-in-requires c κs = search needs
@@ -54,7 +54,7 @@ returns-2 c =
     let m = c .before .before .before .before in
     let s = m .before .before .before in
     rw (ne-eqb (s .args .c .kind) 13 (c .before .before .if1 .left), c .outside .ensures, c .before .count-in .ensures)
-    (count-games (s .args .p) (s .args .c) (m .against .result) (s .pre .1) (rules s .s) (counted m))
+    (count-games (s .args .p) (s .args .c) (m .against .result) (s .pre .1) (rules s .s) (counted m), s .pre .5)
 
 pub figure-of-spec : {M : Type 1} → statement M
 figure-of-spec =

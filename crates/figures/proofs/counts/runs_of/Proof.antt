@@ -1,5 +1,6 @@
 -- `counts::runs_of` meets its contract. Assumes nothing.
-use mathlib.Core.Path.{refl, sym}
+use denote.Ref.{now}
+use mathlib.Core.Path.{sym, _∙_}
 use borrow.Author.Needs.{needs}
 use Rattle.robinx.specs.Groups.{bit}
 use Rattle.figures.proofs.TeamFigures.{no-runs, runs-laid}
@@ -10,10 +11,11 @@ cast-w : tie.Need-cast-w
 cast-w c = search needs
 
 returns : tie.Need-returns
-returns c = let a = c .before .before .args in sym (no-runs (a .p) (a .c) (bit (a .mask)) (c .if1 .taken))
+returns c =
+    let s = c .before .before in (sym (no-runs (s .args .p) (s .args .c) (bit (s .args .mask)) (c .if1 .taken)), s .pre .1)
 
-lay-requires : tie.Need-lay-requires
-lay-requires c κs = search needs
+lay-at-requires : tie.Need-lay-at-requires
+lay-at-requires c κs = search needs
 
 add-runs : tie.Need-add-runs
 add-runs c = search needs
@@ -28,8 +30,9 @@ returns-2 : tie.Need-returns-2
 returns-2 c =
     let laid = c .before .before in
     let s = laid .before .before .before .before in
-    rw (c .runs .ensures) (runs-laid (s .args .p) (s .args .c) (s .args .mask) _ _ refl (laid .lay .ensures) (search needs) (s .pre))
+    let r = runs-laid (s .args .p) (s .args .c) (s .args .mask) (now (s .args .rows)) (s .pre .1) (laid .lay-at .ensures) (search needs) (s .pre .0) in
+    (c .runs .ensures ∙ r .0, r .1)
 
 pub runs-of-spec : {M : Type 1} → statement M
 runs-of-spec =
-    tie.close (tie.spec cast-w returns lay-requires add-runs sub-runs runs-requires returns-2)
+    tie.close (tie.spec cast-w returns lay-at-requires add-runs sub-runs runs-requires returns-2)
