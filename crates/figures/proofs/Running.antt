@@ -1,18 +1,21 @@
 -- Rows of running counts: what a table of them holds, and that their distances over S are the deviations. Assumes nothing.
-use mathlib.Core.Path.{_≡_, refl, sym, ap, ap₂, _∙_}
+use mathlib.Core.Path.{_≡_, sym, ap, _∙_}
 use mathlib.Core.List.{List}
 use mathlib.Core.Bool.{true, false, true≢false}
-use Prim.Native.Nat.{ℕ, zero, suc, _+_, _-_, _*_, _^_, _<_, _≤_}
+use Prim.Native.Nat.{ℕ, suc, _+_, _-_, _*_, _^_, _<_, _≤_}
 use native.Mathlib.Omega.{arith}
 use lib.ListN.{length}
 use borrow.Author.Count.{below-more}
-use Rattle.robinx.specs.Sums.{dist}
-use Rattle.robinx.specs.Groups.{bit, has}
-use Rattle.robinx.specs.Timetable.{X, side, gamesAgainst, gamesUpTo}
+use Rattle.robinx.specs.Sums.{sumTo, dist}
+use Rattle.robinx.specs.Groups.{has}
+use Rattle.robinx.specs.Timetable.{X, side, homeSide, awaySide, gamesAgainst, gamesUpTo}
 use Rattle.robinx.specs.Deviations.{each, eachPair, worst, devFA1, devFA2}
 use Rattle.robinx.specs.declared.Constraint.{Constraint}
+use Rattle.robinx.proofs.Sums.{sum-add}
+use Rattle.robinx.proofs.Bounds.{gamesUpTo-le}
 use Rattle.robinx.proofs.Ext.{sum-ext, each-ext, eachPair-ext}
-use Rattle.masks.specs.Rows.{Holds, HoldsAt, upTo, laid, laidAt}
+use Rattle.timetable.specs.Tables.{xOf}
+use Rattle.masks.specs.Rows.{Holds, HoldsAt, marked, upTo, laid, laidAt}
 use Rattle.masks.proofs.Rows.{laid-holds, laidAt-length, laidAt-holds, laidAt-other, farthest-ext, farthest-of, worst-less}
 use Rattle.figures.specs.Figures.{Ready}
 use Rattle.figures.specs.Games.{MaskOf}
@@ -25,10 +28,10 @@ unfolding gamesUpTo
 running-of n x d T t m h k l = sum-ext (suc k) (λ a la. h a (omega arith))
 
 -- the largest distance, less kmax, is the largest of what is more than kmax
-pub apart-worst : (e : List ℕ) (kmax : ℕ) (f g : ℕ → ℕ) (S P : ℕ) → S < 2 ^ P → P ≤ 64 → Holds e (bit S) 64
-    → apart e kmax f g ≡ worst P S (λ k. dist (f k) (g k) - kmax)
-apart-worst e kmax f g S P h l he =
-    ap (λ (v : ℕ). v - kmax) (farthest-of e f g S P h l he) ∙ sym (worst-less P S (λ k. dist (f k) (g k)) kmax)
+pub apart-worst : (e : List ℕ) (kmax : ℕ) (f g : ℕ → ℕ) (S P : ℕ) → S < 2 ^ P → P ≤ 64 → Holds e (marked S) 64
+    → ((k : ℕ) → k < 64 → dist (f k) (g k) ≤ 255) → apart e kmax f g ≡ worst P S (λ k. dist (f k) (g k) - kmax)
+apart-worst e kmax f g S P h l he small =
+    ap (λ (v : ℕ). v - kmax) (farthest-of e f g S P h l he small) ∙ sym (worst-less P S (λ k. dist (f k) (g k)) kmax)
 
 -- a row that is laid leaves the others
 pub other-row : (rows : List ℕ) (i j : ℕ) (f g : ℕ → ℕ) → (j ≡ i → ⊥) → HoldsAt rows (j * 64) f 64 → HoldsAt (laidAt rows (i * 64) g 64) (j * 64) f 64
@@ -73,23 +76,41 @@ pub members-apart : (e : List ℕ) (kmax : ℕ) {n : ℕ} {x : X} {d T : ℕ} {r
 members-apart e kmax h i j li lj hi hj = ap (λ (v : ℕ). v - kmax) (farthest-ext e 64 (h .row i li hi) (h .row j lj hj))
 
 -- The constraint's own deviations: e is the row of S.
-module _ {n P : ℕ} {c : Constraint} {home away meets out : List ℕ} (r : Ready n P c home away meets out) (x : X) where
+module _ {n P : ℕ} {c : Constraint} {home away meets out : List ℕ} (r : Ready n P c home away meets out) where
   pub counting : Counting n (c .t1) home away meets
   counting = record { teams = r .teams; group = limits r .t1; tied = r .tied }
 
-  apart-in-S : (blank : List ℕ) {e : List ℕ} → length blank ≡ 64 → e ≡ laid blank (bit (c .s)) 64 → (f g : ℕ → ℕ)
-      → apart e (c .kmax) f g ≡ worst P (c .s) (λ k. dist (f k) (g k) - c .kmax)
-  apart-in-S blank {e} l p f g =
-      apart-worst e (c .kmax) f g (c .s) P (limits r .s) (r .slots) (rw p (laid-holds blank (bit (c .s)) 64 (omega arith)))
+  one-game : (t k : ℕ) → t < n → k < 64 → sumTo (λ j. xOf meets t j k + xOf meets j t k) n ≤ 1
+  one-game t k lt lk =
+      let at = r .tied in
+      omega (
+        arith,
+        sum-add (λ j. xOf meets t j k) (λ j. xOf meets j t k) n,
+        at .home-row t k lt lk,
+        at .away-row t k lt lk,
+        at .once t k lt lk,
+      )
 
-  pub teams-balance : (blank : List ℕ) {e filled : List ℕ} → length blank ≡ 64 → e ≡ laid blank (bit (c .s)) 64
-      → filled ≡ each n (c .t1) (sidesApart n x (c .t1) e (c .kmax)) → filled ≡ devFA1 n P c x
+  -- a count is no more than the slots, so it is a byte
+  few : (d t k : ℕ) → t < n → k < 64 → running n (xOf meets) d (c .t1) t k ≤ 64
+  few d t k lt lk = omega (arith, gamesUpTo-le n 64 (r .teams) (omega arith) (xOf meets) one-game d (c .t1) t (suc k) lt lk)
+
+  apart-in-S : (blank : List ℕ) {e : List ℕ} → length blank ≡ 64 → e ≡ laid blank (marked (c .s)) 64 → (d d′ i j : ℕ) → i < n → j < n
+      → apart e (c .kmax) (running n (xOf meets) d (c .t1) i) (running n (xOf meets) d′ (c .t1) j)
+      ≡ worst P (c .s) (λ k. dist (running n (xOf meets) d (c .t1) i k) (running n (xOf meets) d′ (c .t1) j k) - c .kmax)
+  apart-in-S blank {e} l p d d′ i j li lj =
+      apart-worst e (c .kmax) _ _ (c .s) P (limits r .s) (r .slots) (rw p (laid-holds blank (marked (c .s)) 64 (omega arith)))
+      (λ k lk. omega (arith, few d i k li lk, few d′ j k lj lk))
+
+  pub teams-balance : (blank : List ℕ) {e filled : List ℕ} → length blank ≡ 64 → e ≡ laid blank (marked (c .s)) 64
+      → filled ≡ each n (c .t1) (sidesApart n (xOf meets) (c .t1) e (c .kmax)) → filled ≡ devFA1 n P c (xOf meets)
   unfolding devFA1
-  teams-balance blank l p q = q ∙ each-ext n (c .t1) (λ t lt h. apart-in-S blank l p _ _)
+  teams-balance blank l p q = q ∙ each-ext n (c .t1) (λ t lt h. apart-in-S blank l p homeSide awaySide t t lt lt)
 
-  pub pairs-balance : (blank : List ℕ) {e rows filled : List ℕ} → length blank ≡ 64 → e ≡ laid blank (bit (c .s)) 64
-      → {d : ℕ} → d ≡ side (c .mode) → Counted n x d (c .t1) rows n
-      → filled ≡ eachPair n (c .t1) (rowsApart rows e (c .kmax)) → filled ≡ devFA2 n P c x
+  pub pairs-balance : (blank : List ℕ) {e rows filled : List ℕ} → length blank ≡ 64 → e ≡ laid blank (marked (c .s)) 64
+      → {d : ℕ} → d ≡ side (c .mode) → Counted n (xOf meets) d (c .t1) rows n
+      → filled ≡ eachPair n (c .t1) (rowsApart rows e (c .kmax)) → filled ≡ devFA2 n P c (xOf meets)
   unfolding devFA2
-  pairs-balance blank {e} l p m h q =
-      rw (← m) (q ∙ eachPair-ext n (c .t1) (λ i j li lj hi hj. members-apart e (c .kmax) h i j li lj hi hj ∙ apart-in-S blank l p _ _))
+  pairs-balance blank {e} l p {d} m h q =
+      rw (← m)
+      (q ∙ eachPair-ext n (c .t1) (λ i j li lj hi hj. members-apart e (c .kmax) h i j li lj hi hj ∙ apart-in-S blank l p d d i j li lj))

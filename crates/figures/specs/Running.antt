@@ -22,7 +22,7 @@ running n x d T t k = gamesUpTo n x d T t (suc k)
 pub record Counted (n : ℕ) (x : X) (d T : ℕ) (rows : List ℕ) (m : ℕ) : Type 0 where
   pub row : (t : ℕ) → t < m → has T t ≡ true → HoldsAt rows (t * 64) (running n x d T t) 64
 
--- the largest distance of f and g at the slots that the row e has, less kmax
+-- the largest distance of f and g at the slots that the row e marks, less kmax
 abbrev pub apart : List ℕ → ℕ → (ℕ → ℕ) → (ℕ → ℕ) → ℕ
 apart e kmax f g = farthestTo e f g 64 - kmax
 

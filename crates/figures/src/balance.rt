@@ -34,7 +34,7 @@ fn lay_games(
     masks::lay_at(against(meets, home, away, sides, group, t, n), rows, r * 64);
 }
 
-// How far rows i and j are apart in the slots of e, less kmax.
+// How far rows i and j are apart in the slots that e marks, less kmax.
 fn rows_apart(rows: &[u8; 2048], e: &[u8; 64], kmax: u8, i: usize, j: usize) -> u32
     requires { ⌜ (i < 32) × (j < 32) ⌝ }
     ensures { λ r. ⌜ r ≡ rowsApart (now (rows .entry)) (now (e .entry)) kmax i j ⌝ }

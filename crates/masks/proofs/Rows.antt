@@ -2,7 +2,7 @@
 use mathlib.Core.Path.{_≡_, refl, sym, ap, ap₂, _∙_}
 use mathlib.Core.Bool.{Bool, true, false}
 use mathlib.Core.List.{List}
-use Prim.Native.Nat.{ℕ, zero, suc, _+_, _-_, _^_, _<_, _≤_}
+use Prim.Native.Nat.{ℕ, zero, suc, _+_, _-_, _*_, _^_, _<_, _≤_, min}
 use native.Mathlib.Omega.{arith}
 use native.Mathlib.Numerals.{add-one}
 use native.Mathlib.Nat.{add-zero, add-suc}
@@ -14,7 +14,8 @@ use Rattle.robinx.specs.Sums.{sumTo, maxTo, only, dist}
 use Rattle.robinx.specs.Groups.{bit, has}
 use Rattle.robinx.specs.Deviations.{worst, outside, inRun}
 use Rattle.robinx.proofs.Ext.{sum-ext, max-ext}
-use Rattle.masks.specs.Rows.{Holds, laid, HoldsAt, upTo, laidAt, farthestTo, runsTo}
+use Rattle.masks.specs.Rows.{Holds, marked, laid, HoldsAt, upTo, laidAt, farthestTo, runsTo}
+use Rattle.masks.proofs.Bits.{at-bits}
 use Rattle.masks.proofs.Width.{worst-stop}
 
 -- one place more
@@ -108,13 +109,18 @@ laidAt-on rows a k f g (suc n) h =
 pub farthest-ext : (e : List ℕ) {f f′ g g′ : ℕ → ℕ} (n : ℕ) → ((k : ℕ) → k < n → f k ≡ f′ k) → ((k : ℕ) → k < n → g k ≡ g′ k)
     → farthestTo e f g n ≡ farthestTo e f′ g′ n
 unfolding farthestTo
-farthest-ext e n hf hg = max-ext n (λ k l. ap (only (eqb (getD e k 0) 1)) (ap₂ dist (hf k l) (hg k l)))
+farthest-ext e n hf hg = max-ext n (λ k l. ap (min (getD e k 0)) (ap₂ dist (hf k l) (hg k l)))
 
-pub farthest-of : (e : List ℕ) (f g : ℕ → ℕ) (S P : ℕ) → S < 2 ^ P → P ≤ 64 → Holds e (bit S) 64
-    → farthestTo e f g 64 ≡ worst P S (λ k. dist (f k) (g k))
+up-to-mark : (S k d : ℕ) → d ≤ 255 → min (marked S k) d ≡ only (has S k) d
+up-to-mark S k d h =
+    at-bits (λ s t. min (s * 255) d ≡ only (eqb s 1) d) (omega arith) (omega arith) (omega arith) (omega arith) S S k
+
+pub farthest-of : (e : List ℕ) (f g : ℕ → ℕ) (S P : ℕ) → S < 2 ^ P → P ≤ 64 → Holds e (marked S) 64
+    → ((k : ℕ) → k < 64 → dist (f k) (g k) ≤ 255) → farthestTo e f g 64 ≡ worst P S (λ k. dist (f k) (g k))
 unfolding farthestTo worst
-farthest-of e f g S P h l he =
-    max-ext 64 (λ k lk. ap (λ (t : ℕ). only (eqb t 1) (dist (f k) (g k))) (he k lk)) ∙ worst-stop P 64 l S (λ k. dist (f k) (g k)) h
+farthest-of e f g S P h l he small =
+    max-ext 64 (λ k lk. ap (λ (m : ℕ). min m (dist (f k) (g k))) (he k lk) ∙ up-to-mark S k (dist (f k) (g k)) (small k lk))
+    ∙ worst-stop P 64 l S (λ k. dist (f k) (g k)) h
 
 -- the largest of f less c is the largest f, less c
 only-less : (t : Bool) (v c : ℕ) → only t (v - c) ≡ only t v - c

@@ -1,16 +1,19 @@
 -- Rows of bytes, a place for each slot, and what is read off them.
 use mathlib.Core.List.{List}
 use mathlib.Core.Path.{_≡_}
-use Prim.Native.Nat.{ℕ, zero, suc, _+_, _-_, _*_, _/_, _%_, _^_, _<_}
-use lib.Dec.{eqb}
+use Prim.Native.Nat.{ℕ, zero, suc, _+_, _-_, _*_, _/_, _%_, _^_, _<_, min}
 use lib.ListN.{getD, set}
-use Rattle.robinx.specs.Sums.{sumTo, maxTo, only, dist}
+use Rattle.robinx.specs.Sums.{sumTo, maxTo, dist}
 use Rattle.robinx.specs.Groups.{bit}
 use Rattle.robinx.specs.Deviations.{outside}
 
 -- the row holds f at each place below n
 abbrev pub Holds : List ℕ → (ℕ → ℕ) → ℕ → Type 0
 Holds row f n = (k : ℕ) → k < n → getD row k 0 ≡ f k
+
+-- 255 for a slot of the mask, else 0
+abbrev pub marked : ℕ → ℕ → ℕ
+marked s k = bit s k * 255
 
 -- the row with f written at each place below n
 unfoldable pub laid : List ℕ → (ℕ → ℕ) → ℕ → List ℕ
@@ -40,9 +43,9 @@ packed f (suc n) = f 0 + packed (λ j. f (suc j)) n * 256
 abbrev pub byte : ℕ → ℕ → ℕ
 byte w j = w / 2 ^ (j * 8) % 256
 
--- the largest distance of f and g at the places that the row e has as 1, of the first n
+-- the largest distance of f and g at the first n places, each counted up to what the row e has there
 unfoldable pub farthestTo : List ℕ → (ℕ → ℕ) → (ℕ → ℕ) → ℕ → ℕ
-farthestTo e f g n = maxTo (λ k. only (eqb (getD e k 0) 1) (dist (f k) (g k))) n
+farthestTo e f g n = maxTo (λ k. min (getD e k 0) (dist (f k) (g k))) n
 
 -- how far the row's increases over w places are outside low .. high, summed over the first n places
 unfoldable pub runsTo : List ℕ → ℕ → ℕ → ℕ → ℕ → ℕ

@@ -1,13 +1,12 @@
 // Masks of slots: bit k of a u64 stands for slot k, counted from 0. Everything that knows how many slots a mask has is in here.
 ghost use mathlib.Core.Path.{_≡_};
-ghost use Prim.Native.Nat.{_+_, _-_, _%_, _<_, _≤_, _^_, max};
+ghost use Prim.Native.Nat.{_+_, _-_, _%_, _<_, _≤_, _^_, min, max};
 ghost use lib.Bits.{bitOr};
-ghost use lib.Dec.{eqb};
 ghost use Rattle.robinx.specs.Sums.{only, sumTo, dist};
 ghost use Rattle.robinx.specs.Groups.{bit, has, reaches};
 ghost use Rattle.robinx.specs.Deviations.{over, outside, tooClose};
 ghost use Rattle.masks.specs.Masks.{joined, without, Within, isBreak, Breaks};
-ghost use Rattle.masks.specs.Rows.{rowAt, upTo, laid, laidAt, packed, byte, farthestTo, runsTo};
+ghost use Rattle.masks.specs.Rows.{marked, rowAt, upTo, laid, laidAt, packed, byte, farthestTo, runsTo};
 
 // Slot k is in the mask.
 pub fn is_in(s: u64, k: u64) -> bool
@@ -117,13 +116,13 @@ pub fn closeness(v: u64, w: u8) -> u32
     c
 }
 
-// A row of the mask: 1 for each of its slots, 0 for the others.
+// A row of the mask: 255 for each of its slots, 0 for the others.
 pub fn spread(s: u64, row: &mut [u8; 64])
-    ensures { λ _. ⌜ now (row .exit) ≡ laid (now (row .entry)) (bit s) 64 ⌝ }
+    ensures { λ _. ⌜ now (row .exit) ≡ laid (now (row .entry)) (marked s) 64 ⌝ }
 {
     let mut k = 0;
     while k < 64 {
-        row[k] = ((s >> k) % 2) as u8;
+        row[k] = ((s >> k) % 2) as u8 * 255;
         k += 1;
     }
 }
@@ -176,6 +175,12 @@ fn larger(x: u8, y: u8) -> u8
     if x < y { y } else { x }
 }
 
+fn smaller(x: u8, y: u8) -> u8
+    ensures { λ r. ⌜ r ≡ min x y ⌝ }
+{
+    if y < x { y } else { x }
+}
+
 fn less(x: u8, y: u8) -> u8
     ensures { λ r. ⌜ r ≡ x - y ⌝ }
 {
@@ -188,16 +193,7 @@ fn gap(x: u8, y: u8) -> u8
     if x < y { y - x } else { x - y }
 }
 
-fn gap_if(e: u8, x: u8, y: u8) -> u8
-    ensures { λ r. ⌜ r ≡ only (eqb e 1) (dist x y) ⌝ }
-{
-    if e == 1 {
-        return gap(x, y);
-    }
-    0
-}
-
-// The largest distance of the rows from places a and b on, at the slots that the row e has.
+// The largest distance of the rows from places a and b on at the slots that the row e marks. The smaller of mark and distance takes no branch.
 pub fn farthest(rows: &[u8; 2048], a: usize, b: usize, e: &[u8; 64]) -> u8
     requires { ⌜ (a ≤ 1984) × (b ≤ 1984) ⌝ }
     ensures { λ r. ⌜ r ≡ farthestTo (now (e .entry)) (rowAt (now (rows .entry)) a) (rowAt (now (rows .entry)) b) 64 ⌝ }
@@ -205,7 +201,7 @@ pub fn farthest(rows: &[u8; 2048], a: usize, b: usize, e: &[u8; 64]) -> u8
     let mut m: u8 = 0;
     let mut k = 0;
     while k < 64 {
-        m = larger(m, gap_if(e[k], rows[a + k], rows[b + k]));
+        m = larger(m, smaller(e[k], gap(rows[a + k], rows[b + k])));
         k += 1;
     }
     m

@@ -19,23 +19,26 @@ loop-holds : tie.Need-loop-holds Inv-loop μ-loop
 unfolding farthestTo maxTo
 loop-holds c = (search needs, refl)
 
-element-copy-out-gap-if : tie.Need-element-copy-out-gap-if Inv-loop μ-loop
-element-copy-out-gap-if c = search needs
+element-copy-out-smaller : tie.Need-element-copy-out-smaller Inv-loop μ-loop
+element-copy-out-smaller c = search needs
 
-add-gap-if : tie.Need-add-gap-if Inv-loop μ-loop
-add-gap-if c = search needs
+add-gap : tie.Need-add-gap Inv-loop μ-loop
+add-gap c = search needs
 
-element-copy-out-gap-if-2 : tie.Need-element-copy-out-gap-if-2 Inv-loop μ-loop
-element-copy-out-gap-if-2 c = search needs
+element-copy-out-gap : tie.Need-element-copy-out-gap Inv-loop μ-loop
+element-copy-out-gap c = search needs
 
-add-gap-if-2 : tie.Need-add-gap-if-2 Inv-loop μ-loop
-add-gap-if-2 c = search needs
+add-gap-2 : tie.Need-add-gap-2 Inv-loop μ-loop
+add-gap-2 c = search needs
 
-element-copy-out-gap-if-3 : tie.Need-element-copy-out-gap-if-3 Inv-loop μ-loop
-element-copy-out-gap-if-3 c = search needs
+element-copy-out-gap-2 : tie.Need-element-copy-out-gap-2 Inv-loop μ-loop
+element-copy-out-gap-2 c = search needs
 
-gap-if-requires : tie.Need-gap-if-requires Inv-loop μ-loop
-gap-if-requires c κs = search needs
+gap-requires : tie.Need-gap-requires Inv-loop μ-loop
+gap-requires c κs = search needs
+
+smaller-requires : tie.Need-smaller-requires Inv-loop μ-loop
+smaller-requires c κs = search needs
 
 larger-requires : tie.Need-larger-requires Inv-loop μ-loop
 larger-requires c κs = search needs
@@ -49,8 +52,8 @@ loop-less c = search needs
 loop-again : tie.Need-loop-again Inv-loop μ-loop
 unfolding farthestTo maxTo
 loop-again c =
-    let l = c .before .before .before .before .before .before .loop in
-    (search needs, rw (add-one, ← l .inv .1, ← c .before .gap-if .ensures) (c .larger .ensures))
+    let l = c .before .before .before .before .before .before .before .loop in
+    (search needs, rw (add-one, ← l .inv .1, ← c .before .before .gap .ensures, ← c .before .smaller .ensures) (c .larger .ensures))
 
 returns : tie.Need-returns Inv-loop μ-loop
 returns c =
@@ -64,12 +67,13 @@ farthest-spec =
     Inv-loop
     μ-loop
     loop-holds
-    element-copy-out-gap-if
-    add-gap-if
-    element-copy-out-gap-if-2
-    add-gap-if-2
-    element-copy-out-gap-if-3
-    gap-if-requires
+    element-copy-out-smaller
+    add-gap
+    element-copy-out-gap
+    add-gap-2
+    element-copy-out-gap-2
+    gap-requires
+    smaller-requires
     larger-requires
     add-k
     loop-less

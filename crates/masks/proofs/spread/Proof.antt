@@ -3,15 +3,14 @@ use denote.Ref.{now}
 use mathlib.Core.Path.{_≡_, refl}
 use Prim.Native.Nat.{_-_, _≤_}
 use native.Mathlib.Omega.{arith}
-use Rattle.robinx.specs.Groups.{bit}
-use Rattle.masks.specs.Rows.{laid}
+use Rattle.masks.specs.Rows.{marked, laid}
 use Rattle.masks.proofs.Rows.{laid-more}
 use borrow.Author.Needs.{needs}
 use Rattle.masks.proofs.spread.Statement.{statement}
 use Rattle.masks.proofs.spread.Tie as tie
 
 abbrev Inv-loop : tie.InvT-loop
-Inv-loop s row₀ k₀ row k = (k ≤ 64) × (row ≡ laid row₀ (bit s) k)
+Inv-loop s row₀ k₀ row k = (k ≤ 64) × (row ≡ laid row₀ (marked s) k)
 
 abbrev μ-loop : tie.MeasureT-loop
 μ-loop s row₀ k₀ row k = 64 - k
@@ -26,6 +25,9 @@ shr-row c = search needs
 cast-row : tie.Need-cast-row Inv-loop μ-loop
 cast-row c = search needs
 
+mul-row : tie.Need-mul-row Inv-loop μ-loop
+mul-row c = search needs
+
 element-write-row : tie.Need-element-write-row Inv-loop μ-loop
 element-write-row c = search needs
 
@@ -38,7 +40,7 @@ loop-less c = search needs
 loop-again : tie.Need-loop-again Inv-loop μ-loop
 loop-again c =
     let l = c .before .loop in
-    let a = c .before .before .args in (search needs, laid-more (now (a .row)) (bit (a .s)) (l .k) (l .inv .1) refl)
+    let a = c .before .before .args in (search needs, laid-more (now (a .row)) (marked (a .s)) (l .k) (l .inv .1) refl)
 
 returns : tie.Need-returns Inv-loop μ-loop
 returns c =
@@ -54,6 +56,7 @@ spread-spec =
     loop-holds
     shr-row
     cast-row
+    mul-row
     element-write-row
     add-k
     loop-less

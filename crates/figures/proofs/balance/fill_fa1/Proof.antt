@@ -1,8 +1,6 @@
 -- `figures::balance::fill_fa1` meets its contract. Assumes nothing.
-use denote.Ref.{now}
-use mathlib.Core.Path.{_≡_, refl, ap}
+use mathlib.Core.Path.{refl, ap}
 use Rattle.robinx.specs.Kinds.{kindOf}
-use Rattle.timetable.specs.Tables.{xOf}
 use Rattle.figures.proofs.Ready.{places-of}
 use Rattle.figures.proofs.Running.{counting, teams-balance}
 use borrow.Author.Needs.{needs}
@@ -16,7 +14,7 @@ fill-teams-requires : tie.Need-fill-teams-requires
 unfolding kindOf
 fill-teams-requires c κs =
     let s = c .before .before .before .before .before .before in
-    (refl, places-of (s .pre .0) (ap kindOf (s .pre .1)), counting (s .pre .0) (xOf (now (s .args .meets))))
+    (refl, places-of (s .pre .0) (ap kindOf (s .pre .1)), counting (s .pre .0))
 
 same-length : tie.Need-same-length
 same-length c = search needs
@@ -25,7 +23,7 @@ returns : tie.Need-returns
 returns c =
     let m = c .before .before .before .before .before .before in
     let s = m .before .before .before in
-    teams-balance (s .pre .0) (xOf (now (s .args .meets))) _ refl (m .spread .ensures) (c .before .before .fill-teams .ensures)
+    teams-balance (s .pre .0) _ refl (m .spread .ensures) (c .before .before .fill-teams .ensures)
 
 pub fill-fa1-spec : {M : Type 1} → statement M
 fill-fa1-spec = tie.close (tie.spec spread-requires fill-teams-requires same-length returns)

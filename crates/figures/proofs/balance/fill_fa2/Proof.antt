@@ -1,8 +1,6 @@
 -- `figures::balance::fill_fa2` meets its contract. Assumes nothing.
-use denote.Ref.{now}
-use mathlib.Core.Path.{_≡_, refl, ap}
+use mathlib.Core.Path.{refl, ap}
 use Rattle.robinx.specs.Kinds.{kindOf}
-use Rattle.timetable.specs.Tables.{xOf}
 use Rattle.figures.proofs.Ready.{limits, places-of}
 use Rattle.figures.proofs.Running.{counting, pairs-balance}
 use borrow.Author.Needs.{needs}
@@ -17,7 +15,7 @@ mode-sides-requires c κs = limits (c .before .before .before .pre .0) .mode-lea
 
 lay-teams-requires : tie.Need-lay-teams-requires
 lay-teams-requires c κs =
-    let s = c .before .before .before .before .before in (refl, counting (s .pre .0) (xOf (now (s .args .meets))))
+    let s = c .before .before .before .before .before in (refl, counting (s .pre .0))
 
 fill-pairs-requires : tie.Need-fill-pairs-requires
 unfolding kindOf
@@ -33,7 +31,7 @@ returns c =
     let laid = c .before .before .before .before .before .before in
     let m = laid .before .before in
     let s = m .before .before .before .before in
-    pairs-balance (s .pre .0) (xOf (now (s .args .meets))) _ refl (m .before .spread .ensures) (m .mode-sides .ensures)
+    pairs-balance (s .pre .0) _ refl (m .before .spread .ensures) (m .mode-sides .ensures)
     (laid .lay-teams .ensures) (c .before .before .fill-pairs .ensures)
 
 pub fill-fa2-spec : {M : Type 1} → statement M
