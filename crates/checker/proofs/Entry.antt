@@ -1,27 +1,26 @@
 -- What the tests of an admission tell, in their order: each refusal has the number of the first true sentence, and a call that
 -- passes them all has the tables of its sheet.
 use mathlib.Core.Path.{_≡_, refl, sym, ap, _∙_}
-use mathlib.Core.List.{List, [], _∷_, _++_}
-use mathlib.Core.Bool.{Bool, true, false, _&&_, _||_, not, or-true}
-use Prim.Native.Nat.{ℕ, zero, suc, _+_, _≤_, _<_}
+use mathlib.Core.List.{List}
+use mathlib.Core.Bool.{Bool, true, false, _&&_, _||_, not}
+use Prim.Native.Nat.{ℕ, zero, suc, _+_, _≤_}
 use native.Mathlib.Omega.{arith}
-use lib.Dec.{eqb, ltb}
-use lib.ListN.{length, getD}
+use lib.Dec.{eqb}
+use lib.ListN.{length}
 use borrow.Author.Tests.{eqb-true, ltb-false, not-false, not-true}
-use Rattle.robinx.specs.Sums.{anyTo}
 use Rattle.robinx.specs.Season.{decode}
 use Rattle.robinx.specs.Timetable.{clash}
-use Rattle.robinx.specs.Books.{allEntries}
 use Rattle.robinx.specs.Refusals.{firstTrue, ofSeason, ofBuffers, sentence1, sentence7, sentence8}
 use Rattle.robinx.specs.declared.Season.{Season}
-use Rattle.robinx.proofs.Sums.{and-yes, any-none}
+use Rattle.robinx.proofs.Sums.{and-yes, or-no}
 use Rattle.robinx.proofs.Passed.{orElse, first-of-both, none-true}
 use Rattle.season.specs.Sizes.{sizesOf}
 use Rattle.season.specs.Examination.{Examination}
 use Rattle.season.specs.declared.Examined.{Examined}
 use Rattle.season.proofs.Read.{slots-read, games-read, constraints-read}
 use Rattle.season.proofs.Found.{SoundSeason, no-fault}
-use Rattle.timetable.specs.Tables.{InRange, Fits, unplaced}
+use Rattle.timetable.specs.Tables.{Teams, above, Builds}
+use Rattle.timetable.specs.declared.Built.{Built}
 use Rattle.checker.specs.Admission.{entryFault, Admits, refusedBy}
 
 -- a refusal says nothing of the tables
@@ -82,52 +81,44 @@ module _ (s sheet : List ℕ) (L T : ℕ) {r : Examined} (x : Examination (ofSea
             let q = and-yes (eqb (length sheet) (z .games)) (eqb L (r .entries)) (p .0) in
             eqb-true _ _ (q .0) ∙ games-read s e
 
-        -- sentence 8, its first half, by what was read
-        abbrev pub above : Bool
-        above = anyTo (λ g. ltb (z .slots) (getD sheet g 0)) (length sheet)
-
-        abbrev pub collides : Bool
+        -- sentence 8, by what was read
+        abbrev collides : Bool
         collides = clash (decode s .home) (decode s .away) sheet
 
-        eight : sentence8 (decode s) sheet ≡ above || collides
+        abbrev bad : Bool
+        bad = above (z .slots) sheet || collides
+
+        eight : sentence8 (decode s) sheet ≡ bad
         unfolding sentence8
         eight = rw (slots-read s e, whole)
 
-        pub slots-refused : {home away meets : List ℕ} → above ≡ true → Admits s sheet L T (refusedBy 8) home away meets
-        unfolding firstTrue
-        slots-refused h = refusal 7 (buffers ∙ rw (seven, fit, eight, h))
-
-        module _ (low : above ≡ false) where
-          pub in-range : InRange 32 (decode s .home) (decode s .away) sheet
-          in-range =
-              let ok = sound-season .sound in
+        -- what the build of the tables asks for
+        pub buildable : Teams 32 (decode s .home) (decode s .away) × (length sheet ≡ length (decode s .home)) × (z .slots ≤ 64)
+        buildable =
+            let ok = sound-season .sound in (
               record {
-                teams = record {
-                  few = omega arith;
-                  aways-length = sound-season .aways ∙ sym (sound-season .homes);
-                  home-below = λ g l. omega (arith, ok .game g (rw (sound-season .homes) at l) .home, ok .teams);
-                  away-below = λ g l. omega (arith, ok .game g (rw (sound-season .homes) at l) .away, ok .teams);
-                  differ = λ g l. ok .game g (rw (sound-season .homes) at l) .differ;
-                };
-                sheet-length = whole ∙ sym (sound-season .homes);
-                slot-low = λ g l.
-                    omega (
-                      arith,
-                      ok .slots,
-                      slots-read s e,
-                      ltb-false (z .slots) (getD sheet g 0) (any-none _ (length sheet) low g (omega (arith, whole, sound-season .homes))),
-                    );
+                few = omega arith;
+                aways-length = sound-season .aways ∙ sym (sound-season .homes);
+                home-below = λ g l. omega (arith, ok .game g (rw (sound-season .homes) at l) .home, ok .teams);
+                away-below = λ g l. omega (arith, ok .game g (rw (sound-season .homes) at l) .away, ok .teams);
+                differ = λ g l. ok .game g (rw (sound-season .homes) at l) .differ;
+              },
+              whole ∙ sym (sound-season .homes),
+              omega (arith, ok .slots, slots-read s e),
+            )
+
+        -- .. and what it tells
+        module _ {b : Built} {home away meets : List ℕ} (w : Builds (z .slots) (decode s .home) (decode s .away) sheet b home away meets) where
+          pub sheet-refused : b .fits ≡ false → Admits s sheet L T (refusedBy 8) home away meets
+          unfolding firstTrue
+          sheet-refused f = refusal 7 (buffers ∙ rw (seven, fit, eight, not-false bad (sym (w .answer) ∙ f)))
+
+          pub admitted : b .fits ≡ true → Admits s sheet L T (record { fault = 0; unplaced = b .unplaced }) home away meets
+          unfolding firstTrue
+          admitted f =
+              let good = not-true bad (sym (w .answer) ∙ f) in
+              record {
+                number = sym (buffers ∙ rw (seven, fit, eight, good));
+                tables = λ t. record { no-clash = sym (ap not (or-no (above (z .slots) sheet) collides good .1)); shows = λ u. w .shows f };
+                count = λ t. rw (← sound-season .homes) (w .count f);
               }
-
-          pub clash-refused : {home away meets : List ℕ} → collides ≡ true → Admits s sheet L T (refusedBy 8) home away meets
-          unfolding firstTrue
-          clash-refused h = refusal 7 (buffers ∙ rw (seven, fit, eight, low, h))
-
-          pub admitted : {home away meets : List ℕ} {u : ℕ} → Fits 32 true home away meets (decode s .home) (decode s .away) sheet
-              → u ≡ unplaced sheet (length (decode s .home)) → Admits s sheet L T (record { fault = 0; unplaced = u }) home away meets
-          unfolding firstTrue
-          admitted f c = record {
-            number = sym (buffers ∙ rw (seven, fit, eight, low, not-true collides (sym (f .no-clash))));
-            tables = λ z. f;
-            count = λ z. rw (← sound-season .homes) c;
-          }

@@ -2,9 +2,7 @@
 ghost use mathlib.Core.Path.{_≡_};
 ghost use mathlib.Core.Bool.{_&&_, not};
 ghost use Prim.Native.Nat.{ℕ, _+_, _≤_};
-ghost use lib.Dec.{eqb, ltb};
-ghost use lib.ListN.{length, getD};
-ghost use Rattle.robinx.specs.Sums.{anyTo};
+ghost use lib.Dec.{eqb};
 ghost use Rattle.timetable.specs.Tables.{Empty};
 ghost use Rattle.checker.specs.Admission.{Admits, refusedBy};
 use robinx::Season;
@@ -32,20 +30,6 @@ fn lengths_bad(z: Season, entries: usize, sheet: usize, ledger: usize, tally: us
     !((sheet == z.games) & (ledger == entries) & (tally == z.constraints + 2))
 }
 
-// Sentence 8, its first half: a byte of the sheet is above p.
-fn slot_above(sheet: &[u8], p: usize) -> bool
-    ensures { λ r. ⌜ r ≡ anyTo (λ g. ltb p (getD (now (sheet .entry)) g 0)) (length (now (sheet .entry))) ⌝ }
-{
-    let mut g = 0;
-    while g < sheet.len() {
-        if p < season::reader::wide(sheet[g]) {
-            return true;
-        }
-        g += 1;
-    }
-    false
-}
-
 pub fn admit(
     season: &[u8],
     sheet: &[u8],
@@ -66,12 +50,9 @@ pub fn admit(
     if lengths_bad(z, e.entries, sheet.len(), ledger, tally) {
         return refused_by(7);
     }
-    if slot_above(sheet, z.slots) {
-        return refused_by(8);
-    }
     let homes = season::reader::homes(season, z);
     let aways = season::reader::aways(season, z);
-    let b = timetable::build(homes, aways, sheet, home, away, meets);
+    let b = timetable::build(homes, aways, sheet, z.slots, home, away, meets);
     if b.fits {
         return Admission {
             fault: 0,

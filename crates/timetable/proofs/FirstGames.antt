@@ -1,30 +1,29 @@
--- The sheet whose games from g on have no slot yet, which is what the tables show before turn g of build. Assumes nothing.
+-- The sheet whose games from g on have no slot yet, which is what the tables show before turn g of build, and the count of games that
+-- have none. Assumes nothing.
 use mathlib.Core.Path.{_≡_, refl, sym, ap, _∙_}
 use mathlib.Core.List.{List}
-use mathlib.Core.Bool.{Bool, true, _&&_, not, and-false}
+use mathlib.Core.Bool.{Bool, true, false, not, and-false}
 use Prim.Native.Nat.{ℕ, zero, suc, _+_, _<_, _≤_}
 use native.Mathlib.Omega.{arith}
-use native.Mathlib.Numerals.{add-one}
 use native.Mathlib.Decide.{ℕ-discrete}
-use lib.Dec.{eqb, eqb·zero-suc}
+use lib.Dec.{eqb, ltb, eqb·zero-suc}
 use lib.ListN.{length, getD, set, replicate, length-set, length-replicate}
 use lib.Seq.{getD-set-same, getD-set-other, ext-getD}
+use borrow.Author.Tests.{ltb-true, ltb-false}
 use Rattle.robinx.specs.Sums.{only}
 use Rattle.robinx.specs.Groups.{bit}
-use Rattle.robinx.specs.Timetable.{isAt, meetings}
+use Rattle.robinx.specs.Timetable.{isAt, meetings, clash}
 use Rattle.robinx.proofs.Sums.{never, only-le, sum-zero, sum-step, sum-bound}
 use Rattle.masks.proofs.Bits.{none-bit}
-use Rattle.timetable.specs.Tables.{cell, xOf, InRange, Fits, Empty, Tried, unplaced}
+use Rattle.timetable.specs.Tables.{cell, xOf, Fits, Empty, unplaced}
 use Rattle.timetable.proofs.Points.{sum-change}
-use Rattle.timetable.proofs.Clash.{clash-is}
-use Rattle.timetable.proofs.Laws.{in-range-set}
-use Rattle.timetable.proofs.Steps.{fits-tried}
+use Rattle.timetable.proofs.Clash.{clash-is, clashing-kept}
 
 unfoldable pub placedTo : List ℕ → ℕ → List ℕ
 placedTo sheet zero = replicate (length sheet) 0
 placedTo sheet (suc g) = set (placedTo sheet g) g (getD sheet g 0)
 
-none-at : (n q : ℕ) → getD {A = ℕ} (replicate n 0) q 0 ≡ 0
+pub none-at : (n q : ℕ) → getD {A = ℕ} (replicate n 0) q 0 ≡ 0
 none-at zero q = refl
 none-at (suc n) zero = refl
 none-at (suc n) (suc q) = none-at n q
@@ -59,17 +58,17 @@ module _ (sheet : List ℕ) where
       ext-getD 0 (placedTo sheet (length sheet)) sheet (placed-length (length sheet))
       (λ h l. earlier (length sheet) h (omega arith) (omega (arith, placed-length (length sheet))))
 
-module _ (n : ℕ) (homes aways sheet : List ℕ) (range : InRange n homes aways sheet) where
-  in-range-placed : (g : ℕ) → g ≤ length homes → InRange n homes aways (placedTo sheet g)
-  unfolding placedTo
-  in-range-placed zero l = record {
-    teams = range .teams;
-    sheet-length = length-replicate (length sheet) 0 ∙ range .sheet-length;
-    slot-low = λ g lg. omega (arith, none-at (length sheet) g);
-  }
-  in-range-placed (suc g) l =
-      in-range-set n homes aways (placedTo sheet g) g (getD sheet g 0) (range .slot-low g (omega arith)) (in-range-placed g (omega arith))
+  -- a clash of the first games is one of the sheet
+  pub clash-of-first : (homes aways : List ℕ) (g : ℕ) → g ≤ length sheet → clash homes aways (placedTo sheet g) ≡ true → clash homes aways sheet ≡ true
+  clash-of-first homes aways g low e =
+      let c = clash-is homes aways (placedTo sheet g) e in
+      clashing-kept homes aways (placedTo sheet g) sheet c (keeps c.g (ltb c.g g) refl) (keeps c.h (ltb c.h g) refl)
+    where
+      keeps : (h : ℕ) (b : Bool) → ltb h g ≡ b → (k : ℕ) → getD (placedTo sheet g) h 0 ≡ suc k → getD sheet h 0 ≡ suc k
+      keeps h true l k s = sym (earlier g h low (ltb-true h g l)) ∙ s
+      keeps h false l k s = absurd (omega (arith, later g h (ltb-false h g l)))
 
+module _ (n : ℕ) (homes aways sheet : List ℕ) where
   -- before the first turn
   pub fits-none : (home away meets : List ℕ) → Empty home away meets → Fits n true home away meets homes aways (placedTo sheet 0)
   unfolding meetings isAt
@@ -101,18 +100,6 @@ module _ (n : ℕ) (homes aways sheet : List ℕ) (range : InRange n homes aways
 
       none-met : (i j k : ℕ) → meetings homes aways (placedTo sheet 0) i j k ≡ 0
       none-met i j k = sum-zero (length homes) (λ g lg. rw (later sheet 0 g (omega arith), eqb·zero-suc k, and-false))
-
-  -- turn g
-  pub fits-next : (g : ℕ) → g < length homes → {ok r s : Bool} {home away meets home′ away′ meets′ : List ℕ}
-      → Fits n ok home away meets homes aways (placedTo sheet g)
-      → Tried r (getD homes g 0) (getD aways g 0) (getD sheet g 0) home away meets home′ away′ meets′
-      → s ≡ ok && r
-      → Fits n s home′ away′ meets′ homes aways (placedTo sheet (g + 1))
-  unfolding placedTo
-  fits-next g low {ok} {r} fits tried e =
-      rw (e, add-one)
-      (fits-tried n homes aways (placedTo sheet g) (in-range-placed g (omega arith)) g low ok r (getD sheet g 0) (range .slot-low g low)
-      (later sheet g g (omega arith)) fits tried)
 
 -- how many of the first games have no slot
 module _ (sheet : List ℕ) where

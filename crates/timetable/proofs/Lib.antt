@@ -6,4 +6,5 @@ pub mod Games
 pub mod Laws
 pub mod Steps
 pub mod FirstGames
+pub mod Turns
 pub mod Fewer

@@ -4,12 +4,13 @@ use mathlib.Core.Path.{_≡_}
 use mathlib.Core.List.{List}
 use mathlib.Core.Bool.{Bool, true, _||_, not, cond}
 use Prim.Native.Nat.{ℕ, zero, suc, _+_, _*_, _<_, _≤_}
-use lib.Dec.{eqb}
+use lib.Dec.{eqb, ltb}
 use lib.ListN.{length, getD, set, replicate}
-use Rattle.robinx.specs.Sums.{sumTo, only}
+use Rattle.robinx.specs.Sums.{sumTo, anyTo, only}
 use Rattle.robinx.specs.Groups.{bit, has}
 use Rattle.robinx.specs.Timetable.{X, meetings, clash}
 use Rattle.masks.specs.Masks.{joined, without}
+use Rattle.timetable.specs.declared.Built.{Built}
 
 -- where the mask of i hosting j stands
 abbrev pub cell : ℕ → ℕ → ℕ
@@ -72,6 +73,17 @@ taken home away i j k = busy home away i k || busy home away j k
 -- how many games of the sheet have no slot
 abbrev pub unplaced : List ℕ → ℕ → ℕ
 unplaced sheet G = sumTo (λ g. only (eqb (getD sheet g 0) 0) 1) G
+
+-- a byte of the sheet is above p
+abbrev pub above : ℕ → List ℕ → Bool
+above p sheet = anyTo (λ g. ltb p (getD sheet g 0)) (length sheet)
+
+-- What building the tables of a sheet answers and leaves. The sheet fits when no byte is above p and no team has two games in a slot; then
+-- the tables are its own, and the games that have no slot are counted.
+pub record Builds (p : ℕ) (homes aways sheet : List ℕ) (r : Built) (home away meets : List ℕ) : Type 0 where
+  pub answer : r .fits ≡ not (above p sheet || clash homes aways sheet)
+  pub shows : r .fits ≡ true → Shows 32 home away meets homes aways sheet
+  pub count : r .fits ≡ true → r .unplaced ≡ unplaced sheet (length homes)
 
 -- a table with slot k in word q, and without it
 abbrev pub joinedAt : List ℕ → ℕ → ℕ → List ℕ

@@ -2,12 +2,12 @@
 // all three or into none.
 ghost use mathlib.Core.Path.{_≡_};
 ghost use mathlib.Core.List.{List};
-ghost use mathlib.Core.Bool.{Bool, true, _&&_, _||_, not};
+ghost use mathlib.Core.Bool.{Bool, true, false, _&&_, _||_, not};
 ghost use Prim.Native.Nat.{ℕ, suc, _+_, _<_, _≤_};
 ghost use lib.Dec.{eqb};
 ghost use lib.ListN.{length, set, getD};
 ghost use Rattle.robinx.specs.Sums.{only};
-ghost use Rattle.timetable.specs.Tables.{cell, busy, joinedAt, withoutAt, Teams, InRange, Fits, unplaced, Empty, Tried, Lifted};
+ghost use Rattle.timetable.specs.Tables.{cell, busy, joinedAt, withoutAt, Teams, InRange, Fits, Empty, Tried, Lifted, Builds};
 
 fn either(a: bool, b: bool) -> bool
     ensures { λ r. ⌜ r ≡ a || b ⌝ }
@@ -163,38 +163,51 @@ fn no_slot(b: u8) -> usize
     if b == 0 { 1 } else { 0 }
 }
 
-// What is known of a sheet once its tables are built: no team has two games in a slot, and so many games have none.
+// What is known of a sheet once its tables are built: it fits, and so many games have no slot.
 pub struct Built {
     pub fits: bool,
     pub unplaced: usize,
 }
 
-// Puts every placed game into empty tables; where a team is busy it goes on and remembers.
+fn unfit() -> Built
+    ensures { λ r. ⌜ r .fits ≡ false ⌝ }
+{
+    Built {
+        fits: false,
+        unplaced: 0,
+    }
+}
+
+// Puts every placed game into empty tables. It stops where the sheet does not fit: at a byte above p, and where a team is busy.
 pub fn build(
     homes: &[u8],
     aways: &[u8],
     sheet: &[u8],
+    p: usize,
     home: &mut [u64; 32],
     away: &mut [u64; 32],
     meets: &mut [u64; 1024],
 ) -> Built
-    requires { ⌜ InRange 32 (now homes) (now aways) (now sheet) × Empty (now home) (now away) (now meets) ⌝ }
-    ensures { λ r. ⌜ Fits 32 (r .fits) (now (home .exit)) (now (away .exit)) (now (meets .exit))
-        (now (homes .entry)) (now (aways .entry)) (now (sheet .entry))
-        × (r .unplaced ≡ unplaced (now (sheet .entry)) (length (now (homes .entry)))) ⌝ }
+    requires { ⌜ Teams 32 (now homes) (now aways) × (length (now sheet) ≡ length (now homes)) × (p ≤ 64)
+        × Empty (now home) (now away) (now meets) ⌝ }
+    ensures { λ r. ⌜ Builds p (now (homes .entry)) (now (aways .entry)) (now (sheet .entry)) r
+        (now (home .exit)) (now (away .exit)) (now (meets .exit)) ⌝ }
 {
-    let mut fits = true;
     let mut unplaced: usize = 0;
     let mut g = 0;
     while g < homes.len() {
         let b = sheet[g];
-        let fit = put(homes, aways, &mut *home, &mut *away, &mut *meets, g, b);
-        fits = both(fits, fit);
+        if p < b as usize {
+            return unfit();
+        }
+        if !put(homes, aways, &mut *home, &mut *away, &mut *meets, g, b) {
+            return unfit();
+        }
         unplaced += no_slot(b);
         g += 1;
     }
     Built {
-        fits: fits,
+        fits: true,
         unplaced: unplaced,
     }
 }

@@ -1,50 +1,59 @@
--- Before turn g the tables are those of the sheet whose games from g on have no slot, and the count is of the games before g. Assumes nothing.
+-- Before turn g the first g games are placed and fit. Assumes nothing.
 use denote.Ref.{now}
-use mathlib.Core.Path.{_≡_, refl}
-use Prim.Native.Nat.{_+_, _-_, _≤_}
+use Prim.Native.Nat.{_+_, _-_}
 use native.Mathlib.Omega.{arith}
 use borrow.Author.Needs.{needs}
+use borrow.Author.Tests.{not-true, not-false}
 use lib.ListN.{length}
-use Rattle.robinx.specs.Sums.{sumTo}
-use Rattle.timetable.specs.Tables.{Fits, unplaced}
-use Rattle.timetable.proofs.FirstGames.{placedTo, all-placed, fits-none, fits-next, unplaced-next, unplaced-low}
+use Rattle.timetable.proofs.FirstGames.{unplaced-next, unplaced-low}
+use Rattle.timetable.proofs.Turns.{Begun, none-yet, ends-above, ends-busy, next-turn, ends-whole}
 use Rattle.timetable.proofs.build.Statement.{statement}
 use Rattle.timetable.proofs.build.Tie as tie
 
 abbrev Inv-loop : tie.InvT-loop
-Inv-loop homes aways sheet home₀ away₀ meets₀ fits₀ unplaced₀ g₀ home away meets fits u g =
-    (g ≤ length homes) × Fits 32 fits home away meets homes aways (placedTo sheet g) × (u ≡ unplaced sheet g)
+Inv-loop homes aways sheet p home₀ away₀ meets₀ unplaced₀ g₀ home away meets unplaced g = Begun p homes aways sheet g home away meets unplaced
 
 abbrev μ-loop : tie.MeasureT-loop
-μ-loop homes aways sheet home₀ away₀ meets₀ fits₀ unplaced₀ g₀ home away meets fits unplaced g = length homes - g
+μ-loop homes aways sheet p home₀ away₀ meets₀ unplaced₀ g₀ home away meets unplaced g = length homes - g
 
 loop-holds : tie.Need-loop-holds Inv-loop μ-loop
-unfolding sumTo
 loop-holds c =
-    let a = c .before .before .before .args in
     let pre = c .before .before .before .pre in
-    (search needs, fits-none 32 (now (a .homes)) (now (a .aways)) (now (a .sheet)) (pre .0) _ _ _ (pre .1), refl)
+    none-yet _ _ _ _ (pre .1) (pre .0) (pre .3)
 
 shared-slice-read-b : tie.Need-shared-slice-read-b Inv-loop μ-loop
-shared-slice-read-b c = omega (arith, c .before .before .before .before .before .before .pre .0 .sheet-length)
+shared-slice-read-b c = search needs
+
+cast-if1 : tie.Need-cast-if1 Inv-loop μ-loop
+cast-if1 c = omega (arith, c .shared-slice-known4 .given (c .before .before .loop .g))
+
+unfit-requires : tie.Need-unfit-requires Inv-loop μ-loop
+unfit-requires c κs = search needs
+
+returns : tie.Need-returns Inv-loop μ-loop
+returns c =
+    ends-above _ _ _ _ (c .before .before .before .before .before .before .before .before .pre .1) (c .before .before .before .before .loop .g) (c .before .before .before .loop-test .taken) (c .before .if1 .taken) (c .unfit .ensures)
 
 put-requires : tie.Need-put-requires Inv-loop μ-loop
-put-requires c κs =
-    let range = c .before .before .before .before .before .before .before .before .before .pre .0 in
-    let low = c .before .before .before .before .loop-test .taken in
-    (range .teams, low, range .slot-low _ low)
+put-requires c κs = let pre = c .before .before .before .before .before .before .before .before .before .before .pre in (pre .0, c .before .before .before .before .before .loop-test .taken, omega arith)
 
-both-requires : tie.Need-both-requires Inv-loop μ-loop
-both-requires c κs = search needs
+unfit-requires-2 : tie.Need-unfit-requires-2 Inv-loop μ-loop
+unfit-requires-2 c κs = search needs
+
+returns-2 : tie.Need-returns-2 Inv-loop μ-loop
+returns-2 c =
+    let pre = c .before .before .before .before .before .before .before .before .before .before .before .before .before .pre in
+    ends-busy _ _ _ _ (pre .1) (c .before .before .before .before .before .before .before .before .before .loop .inv) (c .before .before .before .before .before .before .before .before .loop-test .taken) (pre .2) (omega arith)
+    (c .before .before .put .ensures) (not-true _ (c .before .if2 .taken)) (c .unfit2 .ensures)
 
 no-slot-requires : tie.Need-no-slot-requires Inv-loop μ-loop
 no-slot-requires c κs = search needs
 
 add-unplaced : tie.Need-add-unplaced Inv-loop μ-loop
 add-unplaced c =
-    let l = c .before .before .before .before .before .before .before .before .loop in
-    let s = now (c .before .before .before .before .before .before .before .before .before .before .before .before .args .sheet) in
-    omega (arith, unplaced-next s (l .g) (l .inv .2) (c .no-slot .ensures), unplaced-low s (l .g + 1))
+    let l = c .before .before .before .before .before .before .before .before .before .loop in
+    let s = now (c .before .before .before .before .before .before .before .before .before .before .before .before .before .args .sheet) in
+    omega (arith, unplaced-next s (l .g) (l .inv .count) (c .no-slot .ensures), unplaced-low s (l .g + 1))
 
 add-g : tie.Need-add-g Inv-loop μ-loop
 add-g c = search needs
@@ -54,21 +63,12 @@ loop-less c = search needs
 
 loop-again : tie.Need-loop-again Inv-loop μ-loop
 loop-again c =
-    let l = c .before .before .before .before .before .before .before .before .loop in
-    let range = c .before .before .before .before .before .before .before .before .before .before .before .before .pre .0 in
-    let low = c .before .before .before .before .before .before .before .loop-test .taken in (
-      search needs,
-      fits-next 32 _ _ _ range (l .g) low (l .inv .1) (c .before .before .put .ensures) (c .before .both .ensures),
-      unplaced-next (now (c .before .before .before .before .before .before .before .before .before .before .before .before .args .sheet)) (l .g) (l .inv .2) (c .no-slot .ensures),
-    )
+    let pre = c .before .before .before .before .before .before .before .before .before .before .before .before .before .pre in
+    next-turn _ _ _ _ (pre .1) (c .before .before .before .before .before .before .before .before .before .loop .inv) (c .before .before .before .before .before .before .before .before .loop-test .taken) (pre .2) (omega arith)
+    (c .before .before .put .ensures) (not-false _ (c .before .if2 .left)) (c .no-slot .ensures)
 
-returns : tie.Need-returns Inv-loop μ-loop
-returns c =
-    let l = c .before .loop in
-    let range = c .before .before .before .before .before .pre .0 in
-    let a = c .before .before .before .before .before .args in
-    let e : l .g ≡ length (now (a .homes)) = omega arith in
-    (rw (← all-placed (now (a .sheet)), range .sheet-length, ← e) (l .inv .1), rw (← e) (l .inv .2))
+returns-3 : tie.Need-returns-3 Inv-loop μ-loop
+returns-3 c = ends-whole _ _ _ _ (c .before .before .before .before .before .pre .1) (c .before .loop .inv) (omega arith)
 
 pub build-spec : {M : Type 1} → statement M
 build-spec =
@@ -78,11 +78,15 @@ build-spec =
     μ-loop
     loop-holds
     shared-slice-read-b
+    cast-if1
+    unfit-requires
+    returns
     put-requires
-    both-requires
+    unfit-requires-2
+    returns-2
     no-slot-requires
     add-unplaced
     add-g
     loop-less
     loop-again
-    returns)
+    returns-3)
