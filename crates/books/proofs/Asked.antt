@@ -12,7 +12,8 @@ use Rattle.robinx.specs.Kinds.{Kind, kindOf}
 use Rattle.robinx.specs.Touch.{across, scopeOf, scope, hits, touches}
 use Rattle.robinx.specs.declared.Constraint.{Constraint}
 use Rattle.robinx.proofs.Sums.{or-no}
-use Rattle.books.specs.Touched.{teamsAskedOf, teamsAsked, slotAskedOf, atSlot, slotAsked}
+use Rattle.books.specs.Touched.{teamsAskedOf, teamsAsked, slotAskedOf, atSlot, slotAsked, noMove, Possible}
+use Rattle.books.specs.declared.touch.Move.{Move}
 
 module _ (c : Constraint) (i j : ℕ) where
   scope-of : (κ : Kind) (k : ℕ) → scopeOf κ c i j k ≡ teamsAskedOf κ c i j && slotAskedOf κ (c .s) k
@@ -121,3 +122,7 @@ module _ (s : ℕ) where
   pub fairness-slots : (k : ℕ) → 41 ≤ k → k ≤ 42 → slot k ≡ reaches s
   unfolding kindOf
   fairness-slots k l h = two slot 41 k l (omega arith) refl
+
+-- the move that touches nothing
+pub none-possible : {v : Move} → v ≡ noMove → Possible v
+none-possible e = rw e (record { home = omega arith; away = omega arith; from = omega arith; to = omega arith })

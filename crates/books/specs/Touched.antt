@@ -44,6 +44,10 @@ atSlot p (suc k) = p k
 unfoldable pub slotAsked : Constraint → ℕ → Bool
 slotAsked c b = atSlot (slotAskedOf (kindOf (c .kind)) (c .s)) b
 
+-- a move that touches nothing
+abbrev pub noMove : Move
+noMove = record { home = 0; away = 0; from = 0; to = 0 }
+
 -- a move of a team below 32 to and from a slot up to 64
 pub record Possible (v : Move) : Type 0 where
   pub home : v .home < 32

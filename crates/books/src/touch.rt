@@ -4,7 +4,7 @@ ghost use mathlib.Core.Bool.{true, _||_};
 ghost use Prim.Native.Nat.{_<_, _≤_};
 ghost use Rattle.robinx.specs.Groups.{has, reaches};
 ghost use Rattle.robinx.specs.Touch.{across};
-ghost use Rattle.books.specs.Touched.{teamsAsked, atSlot, slotAsked, Possible, touchedBy};
+ghost use Rattle.books.specs.Touched.{teamsAsked, atSlot, slotAsked, noMove, Possible, touchedBy};
 use robinx::Constraint;
 
 // Game (home, away) goes from one slot of the sheet to another; 0 is none.
@@ -13,6 +13,18 @@ pub struct Move {
     pub away: u8,
     pub from: u8,
     pub to: u8,
+}
+
+// A move that touches nothing.
+pub fn no_move() -> Move
+    ensures { λ r. ⌜ r ≡ noMove ⌝ }
+{
+    Move {
+        home: 0,
+        away: 0,
+        from: 0,
+        to: 0,
+    }
 }
 
 // Team t is in the group.

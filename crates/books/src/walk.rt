@@ -13,6 +13,7 @@ ghost use Rattle.books.specs.Walk.{Given, isTouched, byMoves, Reworked, 
 use super::totals::added;
 use super::touch::Move;
 use super::touch::either_touches;
+use super::touch::no_move;
 use figures::fill;
 use robinx::Constraint;
 use robinx::Season;
@@ -127,17 +128,6 @@ fn walk(
         k += 1;
     }
     sums
-}
-
-fn no_move() -> Move
-    ensures { λ r. ⌜ Possible r ⌝ }
-{
-    Move {
-        home: 0,
-        away: 0,
-        from: 0,
-        to: 0,
-    }
 }
 
 // Works out every constraint and gives the totals.

@@ -27,9 +27,10 @@ use Rattle.season.proofs.Found.{measured}
 use Rattle.timetable.specs.Tables.{xOf, InRange, Fits, unplaced}
 use Rattle.timetable.proofs.Fewer.{in-range-32}
 use Rattle.timetable.proofs.FirstGames.{unplaced-set, unplaced-low}
+use Rattle.books.specs.Touched.{Possible}
 use Rattle.books.specs.Walk.{Given}
 use Rattle.checker.specs.Admission.{Ready}
-use Rattle.checker.specs.Answer.{Answered}
+use Rattle.checker.specs.Answer.{Answered, moveOf}
 use Rattle.checker.proofs.Shown.{is-sound, whole, range, tied, same-deviations}
 use Rattle.checker.proofs.Outcomes.{ready-passed, reworked-is}
 
@@ -75,13 +76,18 @@ module _ {s sheet home away meets : List ℕ} {L T u : ℕ} (r : Ready s sheet L
   pub few-unplaced : u ≤ 1024
   few-unplaced = omega (arith, r .count, unplaced-low sheet (decode s .G), few-games)
 
-  pub possible-team : {g : ℕ} → g < decode s .G → (getD (decode s .home) g 0 < 32) × (getD (decode s .away) g 0 < 32)
-  possible-team {g} l =
-      let w = range-32 .teams in
-      (w .home-below g (omega (arith, as-many-games)), w .away-below g (omega (arith, as-many-games)))
-
   pub slot-possible : {g : ℕ} → g < decode s .G → getD sheet g 0 ≤ 64
   slot-possible {g} l = range-32 .slot-low g (omega (arith, as-many-games))
+
+  pub move-possible : (g from to : ℕ) → g < decode s .G → from ≤ 64 → to ≤ 64 → Possible (moveOf (decode s .home) (decode s .away) g from to)
+  move-possible g from to l lf lt =
+      let w = range-32 .teams in
+      record {
+        home = w .home-below g (omega (arith, as-many-games));
+        away = w .away-below g (omega (arith, as-many-games));
+        from = lf;
+        to = lt;
+      }
 
 -- an accepted call: the tables are those of the sheet after it
 module _ {s sheet home away meets home′ away′ meets′ : List ℕ} (ledger tally : List ℕ) {u : ℕ} (k : Call)

@@ -27,9 +27,10 @@ use Rattle.robinx.proofs.Passed.{Passed, all-passed}
 use Rattle.season.specs.Sizes.{sizesOf}
 use Rattle.season.proofs.Found.{measured}
 use Rattle.timetable.specs.Tables.{xOf, unplaced}
+use Rattle.books.specs.Touched.{noMove}
 use Rattle.books.specs.Walk.{Given, Opened, Updated, byMoves}
 use Rattle.checker.specs.Admission.{entryFault, Ready}
-use Rattle.checker.specs.Answer.{Answered, noMove}
+use Rattle.checker.specs.Answer.{Answered, moveOf}
 use Rattle.checker.proofs.Shown.{whole, totals-small, tied, same-deviations, verdict-is}
 
 pub long-enough : {s sheet : List ℕ} {L T : ℕ} → Passed s sheet L T → 6 ≤ length s
@@ -146,14 +147,14 @@ reworked-is {m} sheet {ledger} {tally} {t = t} {x} {u} k w et same eu =
     )
 
 -- what a set's move touches
-pub set-touched : (m : Instance) (sheet : List ℕ) {homes aways : List ℕ} (g b : ℕ) → homes ≡ m .home → aways ≡ m .away
-    → byMoves m (record { home = getD homes g 0; away = getD aways g 0; from = getD sheet g 0; to = b }) noMove ≡ touched m sheet (Call.setSlot g b)
+pub set-touched : (m : Instance) (sheet : List ℕ) (g b : ℕ)
+    → byMoves m (moveOf (m .home) (m .away) g (getD sheet g 0) b) noMove ≡ touched m sheet (Call.setSlot g b)
 unfolding touched touches
-set-touched m sheet g b eh ea = rw (eh, ea) (λ i c. or-false (touches (m .constraint c) (getD (m .home) g 0) (getD (m .away) g 0) (getD sheet g 0) b) i)
+set-touched m sheet g b i c = or-false (touches (m .constraint c) (getD (m .home) g 0) (getD (m .away) g 0) (getD sheet g 0) b) i
 
 -- the two moves of an exchange
-pub exchange-touched : (m : Instance) (sheet : List ℕ) {homes aways : List ℕ} (g h : ℕ) → homes ≡ m .home → aways ≡ m .away
-    → byMoves m (record { home = getD homes g 0; away = getD aways g 0; from = getD sheet g 0; to = getD sheet h 0 })
-    (record { home = getD homes h 0; away = getD aways h 0; from = getD sheet h 0; to = getD sheet g 0 }) ≡ touched m sheet (Call.exchange g h)
+pub exchange-touched : (m : Instance) (sheet : List ℕ) (g h : ℕ)
+    → byMoves m (moveOf (m .home) (m .away) g (getD sheet g 0) (getD sheet h 0)) (moveOf (m .home) (m .away) h (getD sheet h 0) (getD sheet g 0))
+    ≡ touched m sheet (Call.exchange g h)
 unfolding touched
-exchange-touched m sheet g h eh ea = rw (eh, ea)
+exchange-touched m sheet g h = refl

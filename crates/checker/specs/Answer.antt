@@ -26,6 +26,6 @@ pub record Answered (m : Instance) (t : ℕ → Bool) (x : X) (u : ℕ) (ledger 
       (toZ w64 (change isHard m t x tally))
       (toZ w64 (change isSoft m t x tally))
 
--- a move that touches nothing
-abbrev pub noMove : Move
-noMove = record { home = 0; away = 0; from = 0; to = 0 }
+-- game g goes from one slot to another
+abbrev pub moveOf : List ℕ → List ℕ → ℕ → ℕ → ℕ → Move
+moveOf homes aways g from to = record { home = getD homes g 0; away = getD aways g 0; from = from; to = to }

@@ -4,7 +4,6 @@ ghost use mathlib.Core.Bool.{Bool, true, false, cond, _||_};
 ghost use Prim.Native.Nat.{ℕ, _+_, _<_, _≤_};
 ghost use lib.Dec.{eqb, ltb};
 ghost use lib.ListN.{length, getD, set};
-ghost use Rattle.robinx.specs.Sums.{only};
 ghost use Rattle.robinx.specs.Season.{decode};
 ghost use mir.Syntax.{w64};
 ghost use mir.Val.{toZ};
@@ -15,11 +14,12 @@ ghost use Rattle.timetable.specs.Tables.{xOf, unplaced};
 ghost use Rattle.books.specs.Touched.{Possible};
 ghost use Rattle.books.specs.Walk.{Given, byMoves};
 ghost use Rattle.checker.specs.Admission.{Ready};
-ghost use Rattle.checker.specs.Answer.{Answered, noMove};
+ghost use Rattle.checker.specs.Answer.{Answered, moveOf};
 use books::touch::Move;
+use books::touch::no_move;
 use robinx::Reply;
 use robinx::Season;
-use robinx::Totals;
+use timetable::no_slot;
 
 pub fn declined(number: u8) -> Reply
     ensures { λ r. ⌜ r ≡ declined number ⌝ }
@@ -43,13 +43,6 @@ fn verdict(unplaced: usize, infeasibility: u64) -> u8
         return 2;
     }
     0
-}
-
-// 1 for a byte of the sheet that names no slot.
-fn none(b: u8) -> usize
-    ensures { λ r. ⌜ r ≡ only (eqb b 0) 1 ⌝ }
-{
-    if b == 0 { 1 } else { 0 }
 }
 
 // What an accepted opening answers and leaves.
@@ -116,14 +109,16 @@ fn rework(
     accepted(verdict(unplaced, tally[at]), changes.hard, changes.soft)
 }
 
-fn no_move() -> Move
-    ensures { λ r. ⌜ r ≡ noMove ⌝ }
+// Game g goes from one slot to another.
+fn move_of(homes: &[u8], aways: &[u8], g: usize, from: u8, to: u8) -> Move
+    requires { ⌜ (g < length (now homes)) × (g < length (now aways)) ⌝ }
+    ensures { λ r. ⌜ r ≡ moveOf (now (homes .entry)) (now (aways .entry)) g from to ⌝ }
 {
     Move {
-        home: 0,
-        away: 0,
-        from: 0,
-        to: 0,
+        home: homes[g],
+        away: aways[g],
+        from,
+        to,
     }
 }
 
@@ -161,14 +156,9 @@ fn set_to(
         g,
         b,
     ) {
-        let first = Move {
-            home: homes[g],
-            away: aways[g],
-            from: from,
-            to: b,
-        };
+        let first = move_of(homes, aways, g, from, b);
+        let left = unplaced - no_slot(from) + no_slot(b);
         sheet[g] = b;
-        let left = unplaced - none(from) + none(b);
         return rework(
             season,
             z,
@@ -221,18 +211,8 @@ fn swap(
         g,
         h,
     ) {
-        let first = Move {
-            home: homes[g],
-            away: aways[g],
-            from: here,
-            to: there,
-        };
-        let second = Move {
-            home: homes[h],
-            away: aways[h],
-            from: there,
-            to: here,
-        };
+        let first = move_of(homes, aways, g, here, there);
+        let second = move_of(homes, aways, h, there, here);
         sheet[g] = there;
         sheet[h] = here;
         return rework(

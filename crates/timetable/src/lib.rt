@@ -157,7 +157,7 @@ fn take_out(
 }
 
 // 1 for a byte that is no slot.
-fn no_slot(b: u8) -> usize
+pub fn no_slot(b: u8) -> usize
     ensures { λ r. ⌜ r ≡ only (eqb b 0) 1 ⌝ }
 {
     if b == 0 { 1 } else { 0 }

@@ -2,6 +2,7 @@
 use Rattle.robinx.specs.Books.{total}
 use Rattle.robinx.specs.Calls.{gained, stretchAt}
 use borrow.Author.Needs.{needs}
+use Rattle.books.proofs.Asked.{none-possible}
 use Rattle.books.proofs.walk.fill_all.Statement.{statement}
 use Rattle.books.proofs.walk.fill_all.Tie as tie
 
@@ -12,7 +13,7 @@ no-move-requires-2 : tie.Need-no-move-requires-2
 no-move-requires-2 c κs = search needs
 
 walk-requires : tie.Need-walk-requires
-walk-requires c κs = search needs
+walk-requires c κs = (c .before .before .before .before .before .before .before .pre, none-possible (c .before .before .before .no-move .ensures), none-possible (c .before .before .no-move2 .ensures))
 
 same-length : tie.Need-same-length
 same-length c = search needs
