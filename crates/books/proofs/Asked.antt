@@ -67,6 +67,10 @@ module _ (c : Constraint) (i j : ℕ) where
   unfolding teamsAsked
   none-asked h = let n = or-no (has (c .t1) i) (has (c .t1) j) h in noneOf (kindOf (c .kind)) (n .0) (n .1)
 
+  -- so a change of a game with no team of T1 touches nothing
+  pub outside : (a b : ℕ) → has (c .t1) i ≡ false → has (c .t1) j ≡ false → touches c i j a b ≡ false
+  outside a b h g = touch-splits a b ∙ rw (none-asked (rw (h, g))) (and-false (not (eqb a b)))
+
 -- a slot of the sheet that is none, and one that is
 pub at-none : (p : ℕ → Bool) (b : ℕ) → b ≡ 0 → atSlot p b ≡ false
 unfolding atSlot

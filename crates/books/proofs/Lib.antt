@@ -1,4 +1,5 @@
 pub mod Asked
+pub mod Teams
 pub mod Running
 pub mod Laid
 pub mod Walked

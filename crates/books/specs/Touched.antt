@@ -1,4 +1,5 @@
 -- What touches a constraint, in two parts: what its kind asks of the teams of a game, and what of a slot.
+use mathlib.Core.Path.{_≡_}
 use mathlib.Core.Bool.{Bool, true, false, _&&_, _||_}
 use Prim.Native.Nat.{ℕ, zero, suc, _<_, _≤_}
 use Rattle.robinx.specs.Groups.{has, reaches}
@@ -54,6 +55,11 @@ pub record Possible (v : Move) : Type 0 where
   pub away : v .away < 32
   pub from : v .from ≤ 64
   pub to : v .to ≤ 64
+
+-- the group has both teams of the move
+pub record Named (teams : ℕ) (v : Move) : Type 0 where
+  pub home : has teams (v .home) ≡ true
+  pub away : has teams (v .away) ≡ true
 
 -- robinx's test of a move
 abbrev pub touchedBy : Move → Constraint → Bool

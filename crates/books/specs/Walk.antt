@@ -15,7 +15,7 @@ use Rattle.robinx.specs.declared.Season.{Season}
 use Rattle.robinx.specs.declared.Totals.{Totals}
 use Rattle.season.specs.Sizes.{Measured}
 use Rattle.timetable.specs.Tables.{Tied}
-use Rattle.books.specs.Touched.{touchedBy}
+use Rattle.books.specs.Touched.{Possible, Named, touchedBy}
 use Rattle.books.specs.Running.{Holds}
 use Rattle.books.specs.declared.touch.Move.{Move}
 use Rattle.books.specs.declared.walk.Touch.{Touch}
@@ -29,6 +29,13 @@ pub record Given (s : List ℕ) (z : Season) (home away meets ledger tally : Lis
   pub tied : Tied (decode s .n) home away meets
   pub ledger-length : length ledger ≡ allEntries (decode s)
   pub tally-length : length tally ≡ decode s .C + 2
+
+-- the moves are possible, and `teams` has the teams of both
+pub record Sound (τ : Touch) : Type 0 where
+  pub first : Possible (τ .first)
+  pub second : Possible (τ .second)
+  pub first-teams : Named (τ .teams) (τ .first)
+  pub second-teams : Named (τ .teams) (τ .second)
 
 -- which constraints are worked out
 abbrev pub isTouched : Touch → Constraint → Bool

@@ -1,10 +1,10 @@
 // Which constraints the change of a game's slot touches. Each kind asks one thing of the two teams and one of the slots.
 ghost use mathlib.Core.Path.{_≡_};
 ghost use mathlib.Core.Bool.{true, _||_};
-ghost use Prim.Native.Nat.{_<_, _≤_};
+ghost use Prim.Native.Nat.{_<_, _≤_, _^_};
 ghost use Rattle.robinx.specs.Groups.{has, reaches};
 ghost use Rattle.robinx.specs.Touch.{across};
-ghost use Rattle.books.specs.Touched.{teamsAsked, atSlot, slotAsked, noMove, Possible, touchedBy};
+ghost use Rattle.books.specs.Touched.{teamsAsked, atSlot, slotAsked, noMove, Possible, Named, touchedBy};
 use robinx::Constraint;
 
 // Game (home, away) goes from one slot of the sheet to another; 0 is none.
@@ -25,6 +25,24 @@ pub fn no_move() -> Move
         from: 0,
         to: 0,
     }
+}
+
+// The group of one team.
+fn group_of(t: u8) -> u32
+    requires { ⌜ t < 32 ⌝ }
+    ensures { λ r. ⌜ r ≡ 2 ^ t ⌝ }
+{
+    1u32 << (t as u32)
+}
+
+// The group of the teams of two moves.
+pub fn teams_of(first: Move, second: Move) -> u32
+    requires { ⌜ Possible first × Possible second ⌝ }
+    ensures { λ r. ⌜ Named r first × Named r second ⌝ }
+{
+    let one = group_of(first.home) | group_of(first.away);
+    let other = group_of(second.home) | group_of(second.away);
+    one | other
 }
 
 // Team t is in the group.
@@ -54,8 +72,7 @@ fn capacity_teams(c: Constraint, i: u8, j: u8) -> bool
     across(c, i, j)
 }
 
-// The teams are such as the kind asks. Every kind asks for one of T1, and most constraints stop at that. The kinds of a class ask the
-// same, but for capacity.
+// The teams are such as the kind asks. Every kind asks for one of T1. The kinds of a class ask the same, but for capacity.
 fn teams_asked(c: Constraint, i: u8, j: u8) -> bool
     requires { ⌜ (i < 32) × (j < 32) ⌝ }
     ensures { λ r. ⌜ r ≡ teamsAsked c i j ⌝ }

@@ -9,19 +9,21 @@ ghost use Rattle.timetable.specs.Tables.{xOf};
 ghost use Rattle.figures.specs.Figures.{Ready};
 ghost use Rattle.books.specs.Touched.{Possible};
 ghost use Rattle.books.specs.Running.{Adds};
-ghost use Rattle.books.specs.Walk.{Given, isTouched, byMoves, Reworked, Filled};
+ghost use Rattle.books.specs.Walk.{Given, Sound, isTouched, byMoves, Reworked, Filled};
 use super::totals::added;
 use super::touch::Move;
 use super::touch::either_touches;
 use super::touch::no_move;
+use super::touch::teams_of;
 use figures::fill;
 use robinx::Constraint;
 use robinx::Season;
 use robinx::Totals;
 
-// What a call changes: everything, or what its moves touch.
+// What a call changes: everything, or what its moves touch. `teams` are the teams of the moves.
 pub struct Touch {
     pub all: bool,
+    pub teams: u32,
     pub first: Move,
     pub second: Move,
 }
@@ -32,12 +34,16 @@ pub struct Moved {
     pub lost: Totals,
 }
 
+// Every kind asks for a team of T1, and most constraints have none of the moves there.
 fn is_touched(c: Constraint, touch: Touch) -> bool
-    requires { ⌜ Possible (touch .first) × Possible (touch .second) ⌝ }
+    requires { ⌜ Sound touch ⌝ }
     ensures { λ r. ⌜ r ≡ isTouched touch c ⌝ }
 {
     if touch.all {
         return true;
+    }
+    if c.t1 & touch.teams == 0 {
+        return false;
     }
     either_touches(c, touch.first, touch.second)
 }
@@ -97,8 +103,7 @@ fn walk(
     ledger: &mut [u32],
     tally: &mut [u64],
 ) -> Moved
-    requires { ⌜ Given (now season) z (now home) (now away) (now meets) (now ledger) (now tally)
-        × Possible (touch .first) × Possible (touch .second) ⌝ }
+    requires { ⌜ Given (now season) z (now home) (now away) (now meets) (now ledger) (now tally) × Sound touch ⌝ }
     ensures { λ r. ⌜ Reworked (decode (now (season .entry))) (λ k. isTouched touch (decode (now (season .entry)) .constraint k))
         (xOf (now (meets .entry))) (now (ledger .entry)) (now (tally .entry)) (now (ledger .exit)) (now (tally .exit)) r ⌝ }
 {
@@ -144,10 +149,12 @@ pub fn fill_all(
     ensures { λ r. ⌜ Filled (decode (now (season .entry))) (xOf (now (meets .entry)))
         (now (tally .entry)) (now (ledger .exit)) (now (tally .exit)) r ⌝ }
 {
+    let none = no_move();
     let everything = Touch {
         all: true,
-        first: no_move(),
-        second: no_move(),
+        teams: teams_of(none, none),
+        first: none,
+        second: none,
     };
     let moved = walk(season, z, everything, home, away, meets, ledger, tally);
     moved.gained
@@ -171,6 +178,7 @@ pub fn rework(
 {
     let moves = Touch {
         all: false,
+        teams: teams_of(first, second),
         first,
         second,
     };

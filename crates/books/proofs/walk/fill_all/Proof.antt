@@ -9,11 +9,16 @@ use Rattle.books.proofs.walk.fill_all.Tie as tie
 no-move-requires : tie.Need-no-move-requires
 no-move-requires c κs = search needs
 
-no-move-requires-2 : tie.Need-no-move-requires-2
-no-move-requires-2 c κs = search needs
+teams-of-requires : tie.Need-teams-of-requires
+teams-of-requires c κs = let p = none-possible (c .no-move .ensures) in (p, p)
 
 walk-requires : tie.Need-walk-requires
-walk-requires c κs = (c .before .before .before .before .before .before .before .pre, none-possible (c .before .before .before .no-move .ensures), none-possible (c .before .before .no-move2 .ensures))
+walk-requires c κs =
+    let p = none-possible (c .before .before .before .no-move .ensures) in
+    let n = c .before .before .teams-of .ensures in (
+      c .before .before .before .before .before .before .before .pre,
+      record { first = p; second = p; first-teams = n .0; second-teams = n .1 },
+    )
 
 same-length : tie.Need-same-length
 same-length c = search needs
@@ -28,4 +33,4 @@ returns c = let w = c .before .before .before .before .before .walk .ensures in 
 pub fill-all-spec : {M : Type 1} → statement M
 fill-all-spec =
     tie.close
-    (tie.spec no-move-requires no-move-requires-2 walk-requires same-length same-length-2 returns)
+    (tie.spec no-move-requires teams-of-requires walk-requires same-length same-length-2 returns)

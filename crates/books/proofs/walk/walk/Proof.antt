@@ -29,7 +29,7 @@ add-end : tie.Need-add-end Inv-loop μ-loop
 add-end c = omega (arith, turn-fits (c .before .before .before .before .before .before .before .before .pre .0) (c .before .before .before .before .before .before .before .before .args .touch) (c .before .before .before .before .loop .inv .1) (c .before .before .if1 .taken) (c .before .constraint-of .ensures) (c .entries .ensures), c .before .before .before .before .loop .inv .1 .laid .long, c .before .before .before .before .before .before .before .before .good)
 
 is-touched-requires : tie.Need-is-touched-requires Inv-loop μ-loop
-is-touched-requires c κs = (c .before .before .before .before .before .before .before .before .pre .1, c .before .before .before .before .before .before .before .before .pre .2)
+is-touched-requires c κs = c .before .before .before .before .before .before .before .before .pre .1
 
 mul-renew : tie.Need-mul-renew Inv-loop μ-loop
 mul-renew c = omega (arith, turn-fits (c .before .before .before .before .before .before .before .before .before .before .pre .0) (c .before .before .before .before .before .before .before .before .before .before .args .touch) (c .before .before .before .before .before .before .loop .inv .1) (c .before .before .before .before .if1 .taken) (c .before .before .before .constraint-of .ensures) (c .before .before .entries .ensures), c .before .before .before .before .before .before .loop .inv .1 .laid .long, c .before .before .before .before .before .before .before .before .before .before .good)
