@@ -28,6 +28,7 @@ use Rattle.timetable.specs.Tables.{xOf, InRange, Fits, unplaced}
 use Rattle.timetable.proofs.Fewer.{in-range-32}
 use Rattle.timetable.proofs.FirstGames.{unplaced-set, unplaced-low}
 use Rattle.books.specs.Touched.{Possible}
+use Rattle.books.specs.declared.touch.Move.{Move}
 use Rattle.books.specs.Walk.{Given}
 use Rattle.checker.specs.Admission.{Ready}
 use Rattle.checker.specs.Answer.{Answered, moveOf}
@@ -79,15 +80,16 @@ module _ {s sheet home away meets : List ℕ} {L T u : ℕ} (r : Ready s sheet L
   pub slot-possible : {g : ℕ} → g < decode s .G → getD sheet g 0 ≤ 64
   slot-possible {g} l = range-32 .slot-low g (omega (arith, as-many-games))
 
-  pub move-possible : (g from to : ℕ) → g < decode s .G → from ≤ 64 → to ≤ 64 → Possible (moveOf (decode s .home) (decode s .away) g from to)
-  move-possible g from to l lf lt =
+  pub move-possible : {v : Move} (g from to : ℕ) → v ≡ moveOf (decode s .home) (decode s .away) g from to
+      → g < decode s .G → from ≤ 64 → to ≤ 64 → Possible v
+  move-possible g from to e l lf lt =
       let w = range-32 .teams in
-      record {
+      rw e (record {
         home = w .home-below g (omega (arith, as-many-games));
         away = w .away-below g (omega (arith, as-many-games));
         from = lf;
         to = lt;
-      }
+      })
 
 -- an accepted call: the tables are those of the sheet after it
 module _ {s sheet home away meets home′ away′ meets′ : List ℕ} (ledger tally : List ℕ) {u : ℕ} (k : Call)

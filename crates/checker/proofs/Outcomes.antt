@@ -28,6 +28,7 @@ use Rattle.season.specs.Sizes.{sizesOf}
 use Rattle.season.proofs.Found.{measured}
 use Rattle.timetable.specs.Tables.{xOf, unplaced}
 use Rattle.books.specs.Touched.{noMove}
+use Rattle.books.specs.declared.touch.Move.{Move}
 use Rattle.books.specs.Walk.{Given, Opened, Updated, byMoves}
 use Rattle.checker.specs.Admission.{entryFault, Ready}
 use Rattle.checker.specs.Answer.{Answered, moveOf}
@@ -147,14 +148,17 @@ reworked-is {m} sheet {ledger} {tally} {t = t} {x} {u} k w et same eu =
     )
 
 -- what a set's move touches
-pub set-touched : (m : Instance) (sheet : List ℕ) (g b : ℕ)
-    → byMoves m (moveOf (m .home) (m .away) g (getD sheet g 0) b) noMove ≡ touched m sheet (Call.setSlot g b)
+pub set-touched : (m : Instance) (sheet : List ℕ) (g b : ℕ) {first second : Move}
+    → first ≡ moveOf (m .home) (m .away) g (getD sheet g 0) b
+    → second ≡ noMove
+    → byMoves m first second ≡ touched m sheet (Call.setSlot g b)
 unfolding touched touches
-set-touched m sheet g b i c = or-false (touches (m .constraint c) (getD (m .home) g 0) (getD (m .away) g 0) (getD sheet g 0) b) i
+set-touched m sheet g b e d = rw (e, d) (λ i c. or-false (touches (m .constraint c) (getD (m .home) g 0) (getD (m .away) g 0) (getD sheet g 0) b) i)
 
 -- the two moves of an exchange
-pub exchange-touched : (m : Instance) (sheet : List ℕ) (g h : ℕ)
-    → byMoves m (moveOf (m .home) (m .away) g (getD sheet g 0) (getD sheet h 0)) (moveOf (m .home) (m .away) h (getD sheet h 0) (getD sheet g 0))
-    ≡ touched m sheet (Call.exchange g h)
+pub exchange-touched : (m : Instance) (sheet : List ℕ) (g h : ℕ) {first second : Move}
+    → first ≡ moveOf (m .home) (m .away) g (getD sheet g 0) (getD sheet h 0)
+    → second ≡ moveOf (m .home) (m .away) h (getD sheet h 0) (getD sheet g 0)
+    → byMoves m first second ≡ touched m sheet (Call.exchange g h)
 unfolding touched
-exchange-touched m sheet g h = refl
+exchange-touched m sheet g h e d = rw (e, d)

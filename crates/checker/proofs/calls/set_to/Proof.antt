@@ -69,7 +69,7 @@ rework-requires c κs =
     let f = rw (c .before .before .before .before .before .before .before .before .before .if1 .taken, eh, ea) at (tried .reslot .ensures) in
     let e = set-no-fault (decode (now (a .season))) (now (a .sheet)) (a .g) (a .b) (h .2) (h .3) (not-true _ (sym (f .no-clash))) in (
       given-after (now (a .ledger)) (now (a .tally)) (Call.setSlot (a .g) (a .b)) (h .0) e f (h .1),
-      rw (c .before .before .before .before .before .before .before .before .move-of .ensures, eh, ea) (move-possible (h .0) (a .g) _ (a .b) (h .2) (slot-possible (h .0) (h .2)) (omega (arith, few-slots (h .0)))),
+      move-possible (h .0) (a .g) _ (a .b) (rw (eh, ea) at (c .before .before .before .before .before .before .before .before .move-of .ensures)) (h .2) (slot-possible (h .0) (h .2)) (omega (arith, few-slots (h .0))),
       none-possible (c .before .before .before .before .before .no-move .ensures),
     )
 
@@ -93,8 +93,8 @@ returns c =
     let f = rw (c .before .before .before .before .before .before .before .before .before .before .before .before .before .before .if1 .taken, eh, ea) at (tried .reslot .ensures) in
     let e = set-no-fault (decode (now (a .season))) (now (a .sheet)) (a .g) (a .b) (h .2) (h .3) (not-true _ (sym (f .no-clash))) in
     call-is (now (a .ledger)) (now (a .tally)) (Call.setSlot (a .g) (a .b)) (h .0) e f
-    (rw (c .before .before .before .before .before .before .before .before .before .before .before .before .before .move-of .ensures, c .before .before .before .before .before .before .before .before .before .before .no-move .ensures, eh, ea) at (c .before .before .before .before .rework .ensures))
-    (set-touched (decode (now (a .season))) (now (a .sheet)) (a .g) (a .b))
+    (c .before .before .before .before .rework .ensures)
+    (set-touched (decode (now (a .season))) (now (a .sheet)) (a .g) (a .b) (rw (eh, ea) at (c .before .before .before .before .before .before .before .before .before .before .before .before .before .move-of .ensures)) (c .before .before .before .before .before .before .before .before .before .before .no-move .ensures))
     (unplaced-after-set (now (a .sheet)) (a .g) (a .b) (decode (now (a .season)) .G) (h .2) (as-many-slots (h .0)) (h .0 .count)
     (c .before .before .before .before .before .before .before .before .before .before .before .before .no-slot .ensures) (c .before .before .before .before .before .before .before .before .before .before .before .no-slot2 .ensures) refl)
 

@@ -62,8 +62,8 @@ rework-requires c κs =
     let here = slot-possible (h .0) (h .2) in
     let there = slot-possible (h .0) (h .3) in (
       given-after (now (a .ledger)) (now (a .tally)) (Call.exchange (a .g) (a .h)) (h .0) e f (h .1),
-      rw (c .before .before .before .before .before .before .move-of .ensures, eh, ea) (move-possible (h .0) (a .g) _ _ (h .2) here there),
-      rw (c .before .before .before .before .before .move-of2 .ensures, eh, ea) (move-possible (h .0) (a .h) _ _ (h .3) there here),
+      move-possible (h .0) (a .g) _ _ (rw (eh, ea) at (c .before .before .before .before .before .before .move-of .ensures)) (h .2) here there,
+      move-possible (h .0) (a .h) _ _ (rw (eh, ea) at (c .before .before .before .before .before .move-of2 .ensures)) (h .3) there here,
     )
 
 same-length : tie.Need-same-length
@@ -86,8 +86,8 @@ returns c =
     let f = rw (c .before .before .before .before .before .before .before .before .before .before .before .before .if1 .taken, eh, ea) at (tried .swap .ensures) in
     let e = exchange-no-fault (decode (now (a .season))) (now (a .sheet)) (a .g) (a .h) (h .2) (h .3) (h .4) (h .5) (not-true _ (sym (f .no-clash))) in
     call-is (now (a .ledger)) (now (a .tally)) (Call.exchange (a .g) (a .h)) (h .0) e f
-    (rw (c .before .before .before .before .before .before .before .before .before .before .before .move-of .ensures, c .before .before .before .before .before .before .before .before .before .before .move-of2 .ensures, eh, ea) at (c .before .before .before .before .rework .ensures))
-    (exchange-touched (decode (now (a .season))) (now (a .sheet)) (a .g) (a .h))
+    (c .before .before .before .before .rework .ensures)
+    (exchange-touched (decode (now (a .season))) (now (a .sheet)) (a .g) (a .h) (rw (eh, ea) at (c .before .before .before .before .before .before .before .before .before .before .before .move-of .ensures)) (rw (eh, ea) at (c .before .before .before .before .before .before .before .before .before .before .move-of2 .ensures)))
     (unplaced-after-exchange (now (a .sheet)) (a .g) (a .h) (decode (now (a .season)) .G) (h .2) (h .3) (h .4) (as-many-slots (h .0)) (h .0 .count) (h .5))
 
 declined-requires : tie.Need-declined-requires
