@@ -13,7 +13,6 @@ use crate::measure::outside;
 use crate::opponents::against;
 use crate::opponents::everyone;
 use masks::count_in;
-use masks::is_in;
 use masks::lay_at;
 use masks::runs;
 use robinx::Constraint;
@@ -60,7 +59,7 @@ fn figure_of(
     outside(c.kmin, c.kmax, count_in(mask, c.s))
 }
 
-// The deviations of CA1, CA2 and CA3.
+// The deviations of CA1, CA2 and CA3, from one team of the group to the next.
 pub fn fill_counts(
     c: Constraint,
     n: usize,
@@ -76,12 +75,14 @@ pub fn fill_counts(
     // for CA3's running counts, from place 1 on
     let mut rows = [0u8; 2048];
     let mut e = 0;
-    let mut t = 0;
-    while t < n {
-        if is_in(c.t1 as u64, t as u64) {
-            out[e] = figure_of(c, n, p, home, away, meets, &mut rows, t);
-            e += 1;
-        }
+    let mut t: usize = 0;
+    let mut rest = c.t1;
+    while rest != 0 {
+        let z = u32::trailing_zeros(rest);
+        t += z as usize;
+        out[e] = figure_of(c, n, p, home, away, meets, &mut rows, t);
+        e += 1;
+        rest = (rest >> z) >> 1;
         t += 1;
     }
 }

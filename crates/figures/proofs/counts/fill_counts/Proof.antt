@@ -1,26 +1,28 @@
 -- `counts::fill_counts` meets its contract: before each turn the figures of the teams below t are in. Assumes nothing.
 use denote.Ref.{now}
 use mathlib.Core.Path.{_≡_, refl, sym, _∙_}
-use mathlib.Core.Logic.{⊎-elim}
-use Prim.Native.Nat.{_-_, _<_, _≤_}
+use Prim.Native.Nat.{_-_, _/_, _^_, _<_}
 use native.Mathlib.Omega.{arith}
+use lib.Count.{trailingZeros}
 use lib.ListN.{length}
 use borrow.Author.Needs.{needs}
 use Rattle.robinx.specs.Groups.{size}
-use Rattle.robinx.proofs.Filled.{FilledEach, each-none, each-room, each-taken, each-skipped, each-done}
+use Rattle.robinx.proofs.Filled.{FilledEach, each-none, each-room, each-taken, each-done}
 use Rattle.robinx.proofs.Sizes.{size-le}
 use Rattle.timetable.specs.Tables.{xOf}
 use Rattle.figures.specs.Games.{FromZero, teamFigure}
+use Rattle.figures.proofs.Ready.{limits}
 use Rattle.figures.proofs.TeamFigures.{team-figures, a-place-a-team}
+use Rattle.figures.proofs.Members.{Ahead, ahead-group, Next, next, each-to-next, each-to-end}
 use Rattle.figures.proofs.counts.fill_counts.Statement.{statement}
 use Rattle.figures.proofs.counts.fill_counts.Tie as tie
 
 abbrev Inv-loop : tie.InvT-loop
-Inv-loop c n p home away meets out₀ rows₀ e₀ t₀ out rows e t =
-    (t ≤ n) × FromZero rows × FilledEach n (c .t1) (teamFigure n p c (xOf meets)) t e out
+Inv-loop c n p home away meets out₀ rows₀ e₀ t₀ rest₀ out rows e t rest =
+    Ahead n (c .t1) t rest × FromZero rows × FilledEach n (c .t1) (teamFigure n p c (xOf meets)) t e out
 
 abbrev μ-loop : tie.MeasureT-loop
-μ-loop c n p home away meets out₀ rows₀ e₀ t₀ out rows e t = n - t
+μ-loop c n p home away meets out₀ rows₀ e₀ t₀ rest₀ out rows e t rest = n - t
 
 places : (c : tie.Start Inv-loop μ-loop) → length (now (c .args .out)) ≡ size (c .args .n) (c .args .c .t1)
 places c =
@@ -28,29 +30,39 @@ places c =
     c .pre .0 .places ∙ a-place-a-team (a .n) (a .p) (a .c) (xOf (now (a .meets))) (c .pre .1) (c .pre .2)
 
 loop-holds : tie.Need-loop-holds Inv-loop μ-loop
-loop-holds c = (search needs, record { long = refl; first = refl }, each-none (places (c .before)))
+loop-holds c =
+    let s = c .before in (
+      ahead-group (s .args .n) (s .args .c .t1) (limits (s .pre .0) .t1),
+      record { long = refl; first = refl },
+      each-none (places s),
+    )
 
-cast-is-in : tie.Need-cast-is-in Inv-loop μ-loop
-cast-is-in c = search needs
+-- the team of a turn
+team : (c : tie.In-loop Inv-loop μ-loop)
+    → let l = c .before .loop in
+    let a = c .before .before .before .args in
+    let z = trailingZeros 32 (l .rest) in
+    Next (a .n) (a .c .t1) (l .t) z (l .rest / 2 ^ z / 2)
+team c = next (c .before .loop .inv .0) 32 (c .before .before .before .pre .0 .teams) (c .loop-test .taken)
 
-is-in-requires : tie.Need-is-in-requires Inv-loop μ-loop
-is-in-requires c κs = let l = c .before .before .before .before .pre .0 .teams in search needs
+cast-t : tie.Need-cast-t Inv-loop μ-loop
+cast-t c = let x = team c in search needs
+
+add-t : tie.Need-add-t Inv-loop μ-loop
+add-t c = let x = team c in search needs
 
 figure-of-requires : tie.Need-figure-of-requires Inv-loop μ-loop
 figure-of-requires c κs =
-    let l = c .before .before .before .before in
-    let r = l .before .before .before .pre .0 in (r .teams, r .slots, l .loop-test .taken, r .rules, r .tied, l .before .loop .inv .1)
+    let l = c .before .before in
+    let r = l .before .before .pre .0 in (r .teams, r .slots, team (c .before) .room, r .rules, r .tied, l .loop .inv .1)
 
-room : (c : tie.Then1 Inv-loop μ-loop) → c .before .before .before .before .loop .e < length (c .before .before .before .before .loop .out)
-room c =
-    let l = c .before .before .before in
-    each-room (l .before .loop .inv .2) (l .loop-test .taken) (sym (c .before .is-in .ensures) ∙ c .if1 .taken)
+room : (c : tie.In-loop Inv-loop μ-loop) → c .before .loop .e < length (c .before .loop .out)
+room c = let x = team c in each-room (each-to-next (c .before .loop .inv .2) x) (x .room) (x .member)
 
-small : (c : tie.Then1 Inv-loop μ-loop) → c .before .before .before .before .loop .e < 32
+small : (c : tie.In-loop Inv-loop μ-loop) → c .before .loop .e < 32
 small c =
-    let l = c .before .before .before .before in
-    let s = l .before .before in
-    omega (arith, room c, l .loop .inv .2 .filled .long, size-le (s .args .c .t1) (s .args .n), s .pre .0 .teams)
+    let s = c .before .before .before in
+    omega (arith, room c, c .before .loop .inv .2 .filled .long, size-le (s .args .c .t1) (s .args .n), s .pre .0 .teams)
 
 mul-out : tie.Need-mul-out Inv-loop μ-loop
 mul-out c = let e = small (c .before .before) in search needs
@@ -61,23 +73,21 @@ slice-write-out c = room (c .before .before)
 add-e : tie.Need-add-e Inv-loop μ-loop
 add-e c = let e = small (c .before .before) in search needs
 
-add-t : tie.Need-add-t Inv-loop μ-loop
-add-t c = search needs
+shr-rest : tie.Need-shr-rest Inv-loop μ-loop
+shr-rest c = let x = team (c .before .before) in search needs
+
+add-t-2 : tie.Need-add-t-2 Inv-loop μ-loop
+add-t-2 c = let x = team (c .before .before) in search needs
 
 loop-less : tie.Need-loop-less Inv-loop μ-loop
-loop-less c = search needs
+loop-less c = let x = team (c .before .before) in search needs
 
 loop-again : tie.Need-loop-again Inv-loop μ-loop
 loop-again c =
-    let test = c .before .before .before in
-    let i = test .before .loop .inv in
-    let e = sym (c .before .is-in .ensures) in (
-      search needs,
-      ⊎-elim (λ w. rw (w .4) (w .2 .ensures .1)) (λ w. rw (w .2) (i .1)) (c .if1 .came),
-      ⊎-elim
-          (λ w. rw (w .3, w .5) (each-taken (i .2) (test .loop-test .taken) (e ∙ w .0 .taken) (w .2 .ensures .0)))
-          (λ w. rw (w .1, w .3) (each-skipped (i .2) (e ∙ w .0 .left)))
-          (c .if1 .came),
+    let x = team (c .before .before) in (
+      x .ahead,
+      c .figure-of .ensures .1,
+      each-taken (each-to-next (c .before .before .before .loop .inv .2) x) (x .room) (x .member) (c .figure-of .ensures .0),
     )
 
 same-length : tie.Need-same-length Inv-loop μ-loop
@@ -88,8 +98,8 @@ returns c =
     let s = c .before .before .before in
     let a = s .args in
     let l = c .before .loop in
-    let e : l .t ≡ a .n = omega arith in
-    each-done (rw e at (l .inv .2)) ∙ team-figures (a .n) (a .p) (a .c) (xOf (now (a .meets))) (s .pre .1) (s .pre .2)
+    each-done (each-to-end (l .inv .2) (l .inv .0) (search needs))
+    ∙ team-figures (a .n) (a .p) (a .c) (xOf (now (a .meets))) (s .pre .1) (s .pre .2)
 
 pub fill-counts-spec : {M : Type 1} → statement M
 fill-counts-spec =
@@ -98,13 +108,14 @@ fill-counts-spec =
     Inv-loop
     μ-loop
     loop-holds
-    cast-is-in
-    is-in-requires
+    cast-t
+    add-t
     figure-of-requires
     mul-out
     slice-write-out
     add-e
-    add-t
+    shr-rest
+    add-t-2
     loop-less
     loop-again
     same-length
