@@ -21,6 +21,7 @@ use Rattle.figures.specs.Figures.{Ready}
 use Rattle.figures.specs.Games.{MaskOf}
 use Rattle.figures.specs.Running.{Counting, running, Counted, apart, rowsApart, sidesApart}
 use Rattle.figures.proofs.Ready.{limits}
+use Rattle.figures.proofs.Members.{Ahead, Next, to-next, to-end}
 
 -- a mask's running counts are those of the games it stands for
 pub running-of : (n : ℕ) (x : X) (d T t m : ℕ) → MaskOf (gamesAgainst n x d T t) m → (k : ℕ) → k < 64 → upTo m k ≡ running n x d T t k
@@ -41,7 +42,7 @@ pub counted-none : {n : ℕ} {x : X} {d T : ℕ} {rows : List ℕ} → Counted n
 counted-none = record { row = λ t l. absurd (omega arith) }
 
 module _ {n : ℕ} {x : X} {d T m : ℕ} {rows : List ℕ} (h : Counted n x d T rows m) where
-  pub counted-skip : has T m ≡ false → Counted n x d T rows (m + 1)
+  counted-skip : has T m ≡ false → Counted n x d T rows (m + 1)
   counted-skip e = record {
     row = below-more (λ t. has T t ≡ true → HoldsAt rows (t * 64) (running n x d T t) 64) m (h .row) (λ b. absurd (true≢false (sym b ∙ e)));
   }
@@ -56,6 +57,13 @@ module _ {n : ℕ} {x : X} {d T m : ℕ} {rows : List ℕ} (h : Counted n x d T 
           (λ b. laidAt-holds rows (m * 64) (running n x d T m) 64 (omega arith));
     },
   )
+
+module _ {n : ℕ} {x : X} {d T k rest : ℕ} {rows : List ℕ} (h : Counted n x d T rows k) where
+  pub counted-to-next : {z : ℕ} → Next n T k z rest → Counted n x d T rows (k + z)
+  counted-to-next = to-next (Counted n x d T rows) (λ j e q. counted-skip q e) h
+
+  pub counted-to-end : Ahead n T k rest → rest ≡ 0 → Counted n x d T rows n
+  counted-to-end = to-end (Counted n x d T rows) (λ j e q. counted-skip q e) h
 
 -- the table's first two rows, one laid after the other
 pub two-rows : (e : List ℕ) (kmax : ℕ) (f g : ℕ → ℕ) (rows : List ℕ) {one both : List ℕ} → length rows ≡ 2048

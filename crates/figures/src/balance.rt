@@ -1,4 +1,5 @@
 // FA1 and FA2: running counts of games, and how far two of them are apart. The counts are rows of one table, laid once.
+// The loops go from one team of the group to the next.
 ghost use mathlib.Core.Path.{_≡_};
 ghost use mathlib.Core.Bool.{true};
 ghost use Prim.Native.Nat.{ℕ, _+_, _*_, _-_, _<_, _≤_, _^_};
@@ -10,10 +11,10 @@ ghost use Rattle.timetable.specs.Tables.{xOf};
 ghost use Rattle.masks.specs.Rows.{laidAt};
 ghost use Rattle.figures.specs.Figures.{Ready};
 ghost use Rattle.figures.specs.Running.{Counting, running, Counted, rowsApart, sidesApart};
-use crate::groups::is_member;
 use crate::measure::less;
 use crate::measure::mode_sides;
 use crate::opponents::against;
+use masks::front;
 use robinx::Constraint;
 
 // The running counts of a team's games of the sides against the group, as row r of the table.
@@ -79,11 +80,13 @@ fn fill_teams(
 {
     let mut at: usize = 0;
     let mut t: usize = 0;
-    while t < n {
-        if is_member(group, t) {
-            out[at] = imbalance(group, kmax, n, home, away, meets, e, rows, t);
-            at += 1;
-        }
+    let mut rest = group;
+    while rest != 0 {
+        let z = u32::trailing_zeros(rest);
+        t += z as usize;
+        out[at] = imbalance(group, kmax, n, home, away, meets, e, rows, t);
+        at += 1;
+        rest = (rest >> z) >> 1;
         t += 1;
     }
 }
@@ -121,10 +124,12 @@ fn lay_teams(
     ensures { λ _. ⌜ Counted n (xOf (now (meets .entry))) sides group (now (rows .exit)) n ⌝ }
 {
     let mut t: usize = 0;
-    while t < n {
-        if is_member(group, t) {
-            lay_games(sides, group, n, home, away, meets, t, rows, t);
-        }
+    let mut rest = group;
+    while rest != 0 {
+        let z = u32::trailing_zeros(rest);
+        t += z as usize;
+        lay_games(sides, group, n, home, away, meets, t, rows, t);
+        rest = (rest >> z) >> 1;
         t += 1;
     }
 }
@@ -145,11 +150,13 @@ fn fill_row(
 {
     let mut next = at;
     let mut j = i + 1;
-    while j < n {
-        if is_member(group, j) {
-            out[next] = rows_apart(rows, e, kmax, i, j);
-            next += 1;
-        }
+    let mut rest = (front(group as u64, n as u64) >> i) >> 1;
+    while rest != 0 {
+        let z = u64::trailing_zeros(rest);
+        j += z as usize;
+        out[next] = rows_apart(rows, e, kmax, i, j);
+        next += 1;
+        rest = (rest >> z) >> 1;
         j += 1;
     }
     next
@@ -161,10 +168,12 @@ fn fill_pairs(group: u32, kmax: u8, n: usize, rows: &[u8; 2048], e: &[u8; 64], o
 {
     let mut at: usize = 0;
     let mut i: usize = 0;
-    while i < n {
-        if is_member(group, i) {
-            at = fill_row(group, kmax, n, rows, e, i, at, out);
-        }
+    let mut rest = front(group as u64, n as u64);
+    while rest != 0 {
+        let z = u64::trailing_zeros(rest);
+        i += z as usize;
+        at = fill_row(group, kmax, n, rows, e, i, at, out);
+        rest = (rest >> z) >> 1;
         i += 1;
     }
 }
