@@ -4,7 +4,7 @@ ghost use mathlib.Core.Bool.{Bool, _&&_};
 ghost use Prim.Native.Nat.{ℕ, _+_, _*_, _<_, _≤_, _^_};
 ghost use lib.ListN.{length, getD};
 ghost use Rattle.robinx.specs.Sums.{sumTo, only};
-ghost use Rattle.robinx.specs.Groups.{bit, has, size};
+ghost use Rattle.robinx.specs.Groups.{bit, size};
 ghost use Rattle.robinx.specs.Timetable.{side, homeSide, gamesBetween};
 ghost use Rattle.robinx.specs.Deviations.{each, over, outside, devCA4, devGA1};
 ghost use Rattle.timetable.specs.Tables.{Tied, xOf};
@@ -17,15 +17,8 @@ use crate::measure::first_modes;
 use crate::measure::mode_sides;
 use crate::measure::outside;
 use crate::opponents::against;
+use masks::is_in;
 use robinx::Constraint;
-
-// Team t is in the group.
-pub fn is_member(group: u32, t: usize) -> bool
-    requires { ⌜ t < 32 ⌝ }
-    ensures { λ r. ⌜ r ≡ has group t ⌝ }
-{
-    (group >> t) % 2 == 1
-}
 
 fn group_if(asked: bool, member: bool, group: u32) -> u32
     ensures { λ r. ⌜ r ≡ only (asked && member) group ⌝ }
@@ -43,8 +36,8 @@ fn guests(sides: u8, t1: u32, t2: u32, i: usize) -> u32
     requires { ⌜ i < 32 ⌝ }
     ensures { λ r. ⌜ r ≡ guests sides t1 t2 i ⌝ }
 {
-    let of_home = group_if(asks_home(sides), is_member(t1, i), t2);
-    of_home | group_if(asks_away(sides), is_member(t2, i), t1)
+    let of_home = group_if(asks_home(sides), is_in(t1 as u64, i as u64), t2);
+    of_home | group_if(asks_away(sides), is_in(t2 as u64, i as u64), t1)
 }
 
 // The slots of these games.
@@ -122,7 +115,7 @@ fn column(words: &[u64; 32], n: usize, k: usize) -> u32
     let mut v: u32 = 0;
     let mut i: usize = 0;
     while i < n {
-        v += one_if(masks::is_in(words[i], k as u64));
+        v += one_if(is_in(words[i], k as u64));
         i += 1;
     }
     v
@@ -136,7 +129,7 @@ fn fill_columns(kmin: u8, kmax: u8, s: u64, n: usize, p: usize, words: &[u64; 32
     let mut at: usize = 0;
     let mut k: usize = 0;
     while k < p {
-        if masks::is_in(s, k as u64) {
+        if is_in(s, k as u64) {
             out[at] = outside(kmin, kmax, column(words, n, k));
             at += 1;
         }

@@ -11,8 +11,8 @@ use Rattle.figures.proofs.groups.guests.Tie as tie
 asks-home-requires : tie.Need-asks-home-requires
 asks-home-requires c κs = search needs
 
-is-member-requires : tie.Need-is-member-requires
-is-member-requires c κs = search needs
+is-in-requires : tie.Need-is-in-requires
+is-in-requires c κs = search needs
 
 group-if-requires : tie.Need-group-if-requires
 group-if-requires c κs = search needs
@@ -20,8 +20,8 @@ group-if-requires c κs = search needs
 asks-away-requires : tie.Need-asks-away-requires
 asks-away-requires c κs = search needs
 
-is-member-requires-2 : tie.Need-is-member-requires-2
-is-member-requires-2 c κs = search needs
+is-in-requires-2 : tie.Need-is-in-requires-2
+is-in-requires-2 c κs = search needs
 
 group-if-requires-2 : tie.Need-group-if-requires-2
 group-if-requires-2 c κs = search needs
@@ -32,18 +32,18 @@ returns c =
     let a = b .before .before .before .args in
     ap₂ bitOr
     (b .group-if .ensures
-    ∙ ap₂ (λ (x y : Bool). only (x && y) (a .t2)) (b .before .before .asks-home .ensures) (b .before .is-member .ensures))
+    ∙ ap₂ (λ (x y : Bool). only (x && y) (a .t2)) (b .before .before .asks-home .ensures) (b .before .is-in .ensures))
     (c .group-if2 .ensures
-    ∙ ap₂ (λ (x y : Bool). only (x && y) (a .t1)) (c .before .before .asks-away .ensures) (c .before .is-member2 .ensures))
+    ∙ ap₂ (λ (x y : Bool). only (x && y) (a .t1)) (c .before .before .asks-away .ensures) (c .before .is-in2 .ensures))
 
 pub guests-spec : {M : Type 1} → statement M
 guests-spec =
     tie.close
     (tie.spec
     asks-home-requires
-    is-member-requires
+    is-in-requires
     group-if-requires
     asks-away-requires
-    is-member-requires-2
+    is-in-requires-2
     group-if-requires-2
     returns)
