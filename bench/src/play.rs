@@ -187,7 +187,8 @@ fn thin(bytes: &[u8], part: Part) -> Vec<u8> {
     let heads = 6 + 2 * games;
     let bodies = heads + 8 * all;
     let keep: Vec<usize> = match part {
-        Part::Some(number) => (0..number.min(all)).map(|k| k * all / number).collect(),
+        Part::Some(number) if number < all => (0..number).map(|k| k * all / number).collect(),
+        Part::Some(_) => (0..all).collect(),
         Part::Kind(kind) => (0..all).filter(|k| bytes[heads + 8 * k] == kind).collect(),
     };
     let mut thinned = bytes[..heads].to_vec();

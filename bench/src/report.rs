@@ -78,8 +78,8 @@ pub fn report(counts: &str) -> String {
         "# Benchmarks\n\n\
          Made by `bench/run.sh`, all in one run. \"Library\" is the compiled proved library. \"Independent\" is `host/reference`, which works\n\
          everything out anew at each call; it is written to be read, not to be fast. \"Limit\" is a hand-written C program with vector code.\n\
-         Each sample season of `examples/` is opened and its list of calls is made; a figure is the mean over the calls of a sort. Both are\n\
-         built for release and work on the caller's buffers, and nothing is cleared between calls.\n\n\
+         Each sample season of `examples/` is opened and its list of calls is made, of the independent checker the first 20; a figure is the\n\
+         mean over the calls of a sort. Both are built for release and work on the caller's buffers, and nothing is cleared between calls.\n\n\
          ## Instructions a call (callgrind)\n\n\
          | season | call | library | limit | library / limit | independent | independent / library |\n\
          |---|---|---|---|---|---|---|\n",
@@ -118,7 +118,7 @@ pub fn report(counts: &str) -> String {
         "\nSet takes at most {to_limit:.1} times the instructions of the limit, and at least {to_independent:.0} times fewer than the independent checker."
     );
 
-    text += "\n## Nanoseconds a call\n\nThe best of five runs of each list. Times depend on the machine, ratios much less.\n\n\
+    text += "\n## Nanoseconds a call\n\nThe best of five runs of each list, of the independent checker the best of two runs of its first 60 calls. Times depend on the\nmachine, ratios much less.\n\n\
              | season | call | library | independent | independent / library |\n|---|---|---|---|---|\n";
     for ((name, _), sample) in LIMITS.iter().zip(&samples) {
         let library = best(5, || sample.play("library", 20, usize::MAX));
