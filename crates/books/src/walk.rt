@@ -63,7 +63,7 @@ fn price(
         × (r ≡ penalty c (deviations n p c (xOf (now (meets .entry))))) ⌝ }
 {
     fill(c, n, p, home, away, meets, &mut *stretch);
-    figures::penalty::penalty(c, &*stretch)
+    penalties::penalty(c, &*stretch)
 }
 
 // One touched constraint, number k.

@@ -4,7 +4,6 @@ pub mod Between
 pub mod Games
 pub mod Members
 pub mod Gathered
-pub mod Folds
 pub mod Meetings
 pub mod TeamFigures
 pub mod TeamBreaks

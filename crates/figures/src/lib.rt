@@ -6,7 +6,6 @@ pub mod groups; // groups.rt: games between two groups (CA4, GA1)
 pub mod breaks; // breaks.rt: BR1, BR2
 pub mod balance; // balance.rt: running counts of home and away games (FA1) and of two teams (FA2)
 pub mod separation; // separation.rt: SE1
-pub mod penalty; // penalty.rt: the penalty of a stretch
 
 ghost use mathlib.Core.Path.{_≡_};
 ghost use Prim.Native.Nat.{_≤_};

@@ -6,8 +6,8 @@ use borrow.Author.Needs.{needs}
 use denote.Ref.{now}
 use Rattle.robinx.specs.Penalty.{sum, penalty}
 use Rattle.robinx.proofs.Bounds.{combine-le}
-use Rattle.figures.proofs.penalty.penalty.Statement.{statement}
-use Rattle.figures.proofs.penalty.penalty.Tie as tie
+use Rattle.penalties.proofs.penalty.Statement.{statement}
+use Rattle.penalties.proofs.penalty.Tie as tie
 
 cast-result : tie.Need-cast-result
 cast-result c = search needs

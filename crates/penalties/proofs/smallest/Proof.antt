@@ -7,9 +7,9 @@ use denote.Ref.{now}
 use lib.ListN.{length, getD, take}
 use lib.Seq.{length-take-le}
 use Rattle.robinx.specs.Penalty.{smallest}
-use Rattle.figures.proofs.Folds.{Folded, folded-none, folded-more, folded-done, smallest-more}
-use Rattle.figures.proofs.penalty.smallest.Statement.{statement}
-use Rattle.figures.proofs.penalty.smallest.Tie as tie
+use Rattle.penalties.proofs.Folds.{Folded, folded-none, folded-more, folded-done, smallest-more}
+use Rattle.penalties.proofs.smallest.Statement.{statement}
+use Rattle.penalties.proofs.smallest.Tie as tie
 
 abbrev Inv-loop : tie.InvT-loop
 Inv-loop l m₀ i₀ m i = (1 ≤ i) × Folded smallest l i m

@@ -4,9 +4,9 @@ use Prim.Native.Nat.{_-_}
 use borrow.Author.Needs.{needs}
 use lib.ListN.{length}
 use Rattle.robinx.specs.Penalty.{largest}
-use Rattle.figures.proofs.Folds.{Folded, folded-none, folded-more, folded-done, largest-more}
-use Rattle.figures.proofs.penalty.largest.Statement.{statement}
-use Rattle.figures.proofs.penalty.largest.Tie as tie
+use Rattle.penalties.proofs.Folds.{Folded, folded-none, folded-more, folded-done, largest-more}
+use Rattle.penalties.proofs.largest.Statement.{statement}
+use Rattle.penalties.proofs.largest.Tie as tie
 
 abbrev Inv-loop : tie.InvT-loop
 Inv-loop l m₀ i₀ m i = Folded largest l i m

@@ -1,8 +1,7 @@
 // The penalty of a constraint: its weight times a function of the deviations in its stretch.
 ghost use mathlib.Core.Path.{_≡_};
-ghost use Prim.Native.Nat.{ℕ, _^_, _<_, min};
+ghost use Prim.Native.Nat.{ℕ, _^_, _<_, min, max};
 ghost use Rattle.robinx.specs.Penalty.{sum, sumOfSquares, largest, smallest, combine, penalty};
-use crate::measure::larger;
 use robinx::Constraint;
 
 fn sum(l: &[u32]) -> u64
@@ -30,6 +29,12 @@ fn sum_of_squares(l: &[u32]) -> u64
         i += 1;
     }
     s
+}
+
+fn larger(x: u32, y: u32) -> u32
+    ensures { λ r. ⌜ r ≡ max x y ⌝ }
+{
+    if x < y { y } else { x }
 }
 
 fn largest(l: &[u32]) -> u32

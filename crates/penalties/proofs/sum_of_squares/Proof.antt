@@ -6,9 +6,9 @@ use borrow.Author.Needs.{needs}
 use denote.Ref.{now}
 use lib.ListN.{length, getD, take}
 use Rattle.robinx.specs.Penalty.{sumOfSquares}
-use Rattle.figures.proofs.Folds.{Folded, folded-none, folded-more, folded-done, squares-more, squares-next-le}
-use Rattle.figures.proofs.penalty.sum_of_squares.Statement.{statement}
-use Rattle.figures.proofs.penalty.sum_of_squares.Tie as tie
+use Rattle.penalties.proofs.Folds.{Folded, folded-none, folded-more, folded-done, squares-more, squares-next-le}
+use Rattle.penalties.proofs.sum_of_squares.Statement.{statement}
+use Rattle.penalties.proofs.sum_of_squares.Tie as tie
 
 abbrev Inv-loop : tie.InvT-loop
 Inv-loop l s₀ i₀ s i = Folded sumOfSquares l i s

@@ -6,9 +6,9 @@ use borrow.Author.Needs.{needs}
 use denote.Ref.{now}
 use lib.ListN.{length}
 use Rattle.robinx.specs.Penalty.{sum}
-use Rattle.figures.proofs.Folds.{Folded, folded-none, folded-more, folded-done, sum-more, sum-next-le}
-use Rattle.figures.proofs.penalty.sum.Statement.{statement}
-use Rattle.figures.proofs.penalty.sum.Tie as tie
+use Rattle.penalties.proofs.Folds.{Folded, folded-none, folded-more, folded-done, sum-more, sum-next-le}
+use Rattle.penalties.proofs.sum.Statement.{statement}
+use Rattle.penalties.proofs.sum.Tie as tie
 
 abbrev Inv-loop : tie.InvT-loop
 Inv-loop l s₀ i₀ s i = Folded sum l i s

@@ -7,8 +7,8 @@ use borrow.Author.Tests.{ne-eqb}
 use denote.Ref.{now}
 use Rattle.robinx.specs.Penalty.{combine}
 use Rattle.robinx.proofs.Bounds.{combine-le}
-use Rattle.figures.proofs.penalty.combined.Statement.{statement}
-use Rattle.figures.proofs.penalty.combined.Tie as tie
+use Rattle.penalties.proofs.combined.Statement.{statement}
+use Rattle.penalties.proofs.combined.Tie as tie
 
 sum-requires : tie.Need-sum-requires
 sum-requires c κs = search needs
