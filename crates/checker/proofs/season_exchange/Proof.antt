@@ -10,43 +10,34 @@ use Rattle.checker.proofs.admission.admit.Reads as admit-reads
 use Rattle.checker.proofs.calls.declined.Reads as declined-reads
 use Rattle.checker.proofs.calls.exchange.Reads as exchange-reads
 
--- src/lib.rt:97:9
 admit-requires : tie.Need-admit-requires
 admit-requires c κs = search needs
 
--- src/lib.rt:107:9
 declined-requires : tie.Need-declined-requires
 declined-requires c κs = search needs
 
--- src/lib.rt:107:9
 same-length : tie.Need-same-length
 same-length c = search needs
 
--- src/lib.rt:107:9
 returns : tie.Need-returns
 returns c =
     let a = c .before .before .before .before .before .before .before .before .before .before .before .before .args in
     exchange-refused (now (a .ledger)) (now (a .tally)) (c .before .before .before .admit .ensures) (a .game) (a .other) (c .before .if1 .taken) (c .declined .ensures)
 
--- src/lib.rt:109:5
 exchange-requires : tie.Need-exchange-requires
 exchange-requires c κs =
     let a = c .before .before .before .before .before .before .before .before .before .before .before .before .before .before .before .before .before .args in
     ready (now (a .ledger)) (now (a .tally)) (c .before .before .before .before .before .before .before .before .admit .ensures) (c .before .before .before .before .before .before .if1 .left)
 
--- src/lib.rt:82:1
 same-length-2 : tie.Need-same-length-2
 same-length-2 c = search needs
 
--- src/lib.rt:82:1
 same-length-3 : tie.Need-same-length-3
 same-length-3 c = search needs
 
--- src/lib.rt:82:1
 same-length-4 : tie.Need-same-length-4
 same-length-4 c = search needs
 
--- src/lib.rt:82:1
 returns-2 : tie.Need-returns-2
 returns-2 c =
     let a = c .before .before .before .before .before .before .before .before .before .before .before .before .before .before .before .before .before .before .before .before .before .before .before .before .args in

@@ -10,35 +10,28 @@ use Rattle.checker.proofs.admission.admit.Reads as admit-reads
 use Rattle.checker.proofs.calls.declined.Reads as declined-reads
 use Rattle.checker.proofs.calls.open.Reads as open-reads
 
--- src/lib.rt:24:9
 admit-requires : tie.Need-admit-requires
 admit-requires c κs = search needs
 
--- src/lib.rt:34:9
 declined-requires : tie.Need-declined-requires
 declined-requires c κs = search needs
 
--- src/lib.rt:34:9
 returns : tie.Need-returns
 returns c =
     let a = c .before .before .before .before .before .before .before .before .before .before .before .args in
     open-refused (now (a .ledger)) (now (a .tally)) (c .before .before .before .admit .ensures) (c .before .if1 .taken) (c .declined .ensures)
 
--- src/lib.rt:36:5
 open-requires : tie.Need-open-requires
 open-requires c κs =
     let a = c .before .before .before .before .before .before .before .before .before .before .before .before .before .before .before .args in
     ready (now (a .ledger)) (now (a .tally)) (c .before .before .before .before .before .before .before .admit .ensures) (c .before .before .before .before .before .if1 .left)
 
--- src/lib.rt:11:1
 same-length : tie.Need-same-length
 same-length c = search needs
 
--- src/lib.rt:11:1
 same-length-2 : tie.Need-same-length-2
 same-length-2 c = search needs
 
--- src/lib.rt:11:1
 returns-2 : tie.Need-returns-2
 returns-2 c =
     let a = c .before .before .before .before .before .before .before .before .before .before .before .before .before .before .before .before .before .before .before .before .args in

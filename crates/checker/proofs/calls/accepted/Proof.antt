@@ -8,15 +8,12 @@ use Rattle.checker.proofs.calls.accepted.Reads as reads
 use Rattle.checker.proofs.calls.accepted.Lts as lts
 use Rattle.books.proofs.totals.signed.Reads as signed-reads
 
--- src/calls.rt:78:24
 signed-requires : tie.Need-signed-requires
 signed-requires c κs = search needs
 
--- src/calls.rt:79:20
 signed-requires-2 : tie.Need-signed-requires-2
 signed-requires-2 c κs = search needs
 
--- src/calls.rt:72:1
 returns : tie.Need-returns
 returns c =
     let a = c .before .before in

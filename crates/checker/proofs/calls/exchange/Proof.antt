@@ -24,57 +24,46 @@ use Rattle.checker.proofs.calls.swap.Reads as swap-reads
 use Rattle.checker.proofs.calls.unplaced_pair.Reads as unplaced-pair-reads
 use Rattle.season.proofs.reader.sizes.Reads as sizes-reads
 
--- src/calls.rt:272:9
 sizes-requires : tie.Need-sizes-requires
 sizes-requires c κs = long-enough (ready-passed (c .before .before .before .before .pre))
 
--- src/calls.rt:274:9
 declined-requires : tie.Need-declined-requires
 declined-requires c κs = search needs
 
--- src/calls.rt:274:9
 returns : tie.Need-returns
 returns c =
     let a = c .before .before .before .before .before .before .before .args in
     rw (c .declined .ensures, exchange-fault-9 (decode (now (a .season))) (now (a .sheet)) (a .game) (a .other) (inl (omega (arith, c .before .if1 .taken, games-read _ (c .before .before .sizes .ensures)))))
 
--- src/calls.rt:277:9
 declined-requires-2 : tie.Need-declined-requires-2
 declined-requires-2 c κs = search needs
 
--- src/calls.rt:277:9
 returns-2 : tie.Need-returns-2
 returns-2 c =
     let a = c .before .before .before .before .before .before .before .before .args in
     rw (c .declined2 .ensures, exchange-fault-9 (decode (now (a .season))) (now (a .sheet)) (a .game) (a .other) (inr (omega (arith, c .before .if2 .taken, games-read _ (c .before .before .before .sizes .ensures)))))
 
--- src/calls.rt:280:9
 declined-requires-3 : tie.Need-declined-requires-3
 declined-requires-3 c κs = search needs
 
--- src/calls.rt:280:9
 returns-3 : tie.Need-returns-3
 returns-3 c =
     let a = c .before .before .before .before .before .before .before .before .before .args in
     let e = games-read _ (c .before .before .before .before .sizes .ensures) in
     rw (c .declined3 .ensures, exchange-fault-11 (decode (now (a .season))) (now (a .sheet)) (a .game) (a .other) (omega (arith, e, c .before .before .before .if1 .left)) (omega (arith, e, c .before .before .if2 .left)) (c .before .if3 .taken))
 
--- src/calls.rt:284:8
 unplaced-pair-requires : tie.Need-unplaced-pair-requires
 unplaced-pair-requires c κs =
     let e = games-read _ (c .before .before .before .before .sizes .ensures) in
     let l = as-many-slots (c .before .before .before .before .before .before .before .before .before .pre) in
     (omega (arith, e, l, c .before .before .before .if1 .left), omega (arith, e, l, c .before .before .if2 .left))
 
--- src/calls.rt:285:9
 declined-requires-4 : tie.Need-declined-requires-4
 declined-requires-4 c κs = search needs
 
--- src/calls.rt:285:9
 same-length : tie.Need-same-length
 same-length c = search needs
 
--- src/calls.rt:285:9
 returns-4 : tie.Need-returns-4
 returns-4 c =
     let a = c .before .before .before .before .before .before .before .before .before .before .before .before .args in
@@ -85,7 +74,6 @@ returns-4 c =
           (sym (c .before .before .unplaced-pair .ensures) ∙ c .before .if4 .taken),
     )
 
--- src/calls.rt:287:5
 swap-requires : tie.Need-swap-requires
 swap-requires c κs =
     let e = games-read _ (c .before .before .before .before .before .before .before .before .before .before .before .before .sizes .ensures) in (
@@ -97,19 +85,15 @@ swap-requires c κs =
       sym (c .before .before .before .before .before .before .before .unplaced-pair .ensures) ∙ c .before .before .before .before .before .before .if4 .left,
     )
 
--- src/calls.rt:254:1
 same-length-2 : tie.Need-same-length-2
 same-length-2 c = search needs
 
--- src/calls.rt:254:1
 same-length-3 : tie.Need-same-length-3
 same-length-3 c = search needs
 
--- src/calls.rt:254:1
 same-length-4 : tie.Need-same-length-4
 same-length-4 c = search needs
 
--- src/calls.rt:254:1
 returns-5 : tie.Need-returns-5
 returns-5 c = search needs
 

@@ -10,31 +10,24 @@ use Rattle.checker.proofs.calls.verdict.Reads as verdict-reads
 use Rattle.books.proofs.open.Reads as open-reads
 use Rattle.season.proofs.reader.sizes.Reads as sizes-reads
 
--- src/calls.rt:66:9
 sizes-requires : tie.Need-sizes-requires
 sizes-requires c κs = long-enough (ready-passed (c .before .before .before .before .pre))
 
--- src/calls.rt:67:9
 open-requires : tie.Need-open-requires
 open-requires c κs = given (c .before .before .before .before .before .before .before .pre) (c .before .before .sizes .ensures)
 
--- src/calls.rt:68:14
 verdict-requires : tie.Need-verdict-requires
 verdict-requires c κs = search needs
 
--- src/calls.rt:68:5
 accepted-requires : tie.Need-accepted-requires
 accepted-requires c κs = search needs
 
--- src/calls.rt:52:1
 same-length : tie.Need-same-length
 same-length c = search needs
 
--- src/calls.rt:52:1
 same-length-2 : tie.Need-same-length-2
 same-length-2 c = search needs
 
--- src/calls.rt:52:1
 returns : tie.Need-returns
 returns c = open-is (c .before .before .before .before .before .before .before .before .before .before .before .before .before .before .pre) (c .before .before .before .before .before .before .open .ensures) (c .before .verdict .ensures) (c .accepted .ensures)
 

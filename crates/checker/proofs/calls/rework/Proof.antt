@@ -11,37 +11,29 @@ use Rattle.checker.proofs.calls.accepted.Reads as accepted-reads
 use Rattle.checker.proofs.calls.verdict.Reads as verdict-reads
 use Rattle.books.proofs.update.Reads as update-reads
 
--- src/calls.rt:104:9
 update-requires : tie.Need-update-requires
 update-requires c κs = search needs
 
--- src/calls.rt:106:32
 mul-verdict : tie.Need-mul-verdict
 mul-verdict c = search needs
 
--- src/calls.rt:106:32
 slice-read-verdict : tie.Need-slice-read-verdict
 slice-read-verdict c =
     let pre = c .before .before .before .before .before .before .before .before .before .before .before .pre .0 in
     omega (arith, pre .tally-length, constraints-read _ (pre .measured .sizes), c .before .before .tally .given)
 
--- src/calls.rt:106:14
 verdict-requires : tie.Need-verdict-requires
 verdict-requires c κs = search needs
 
--- src/calls.rt:106:5
 accepted-requires : tie.Need-accepted-requires
 accepted-requires c κs = search needs
 
--- src/calls.rt:88:1
 same-length : tie.Need-same-length
 same-length c = search needs
 
--- src/calls.rt:88:1
 same-length-2 : tie.Need-same-length-2
 same-length-2 c = search needs
 
--- src/calls.rt:88:1
 returns : tie.Need-returns
 returns c =
     let pre = c .before .before .before .before .before .before .before .before .before .before .before .before .before .pre .0 in

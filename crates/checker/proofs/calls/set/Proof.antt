@@ -23,25 +23,20 @@ use Rattle.checker.proofs.calls.declined.Reads as declined-reads
 use Rattle.checker.proofs.calls.set_to.Reads as set-to-reads
 use Rattle.season.proofs.reader.sizes.Reads as sizes-reads
 
--- src/calls.rt:223:9
 sizes-requires : tie.Need-sizes-requires
 sizes-requires c κs = long-enough (ready-passed (c .before .before .before .before .pre))
 
--- src/calls.rt:225:9
 declined-requires : tie.Need-declined-requires
 declined-requires c κs = search needs
 
--- src/calls.rt:225:9
 returns : tie.Need-returns
 returns c =
     let a = c .before .before .before .before .before .before .before .args in
     rw (c .declined .ensures, set-fault-9 (decode (now (a .season))) (now (a .sheet)) (a .game) (a .slot) (omega (arith, c .before .if1 .taken, games-read _ (c .before .before .sizes .ensures))))
 
--- src/calls.rt:228:9
 declined-requires-2 : tie.Need-declined-requires-2
 declined-requires-2 c κs = search needs
 
--- src/calls.rt:228:9
 returns-2 : tie.Need-returns-2
 returns-2 c =
     let a = c .before .before .before .before .before .before .before .before .args in
@@ -52,29 +47,23 @@ returns-2 c =
           (omega (arith, c .before .if2 .taken, slots-read _ (c .before .before .before .sizes .ensures))),
     )
 
--- src/calls.rt:241:9
 cast-set-to : tie.Need-cast-set-to
 cast-set-to c = omega (arith, c .before .before .before .before .before .before .if2 .left, slots-read _ (c .before .before .before .before .before .before .before .before .sizes .ensures), few-slots (c .before .before .before .before .before .before .before .before .before .before .before .before .before .pre))
 
--- src/calls.rt:230:5
 set-to-requires : tie.Need-set-to-requires
 set-to-requires c κs =
     let e = c .before .before .before .before .before .before .before .before .sizes .ensures in
     (c .before .before .before .before .before .before .before .before .before .before .before .before .before .pre, e, omega (arith, c .before .before .before .before .before .before .before .if1 .left, games-read _ e), omega (arith, c .before .before .before .before .before .before .if2 .left, slots-read _ e))
 
--- src/calls.rt:205:1
 same-length : tie.Need-same-length
 same-length c = search needs
 
--- src/calls.rt:205:1
 same-length-2 : tie.Need-same-length-2
 same-length-2 c = search needs
 
--- src/calls.rt:205:1
 same-length-3 : tie.Need-same-length-3
 same-length-3 c = search needs
 
--- src/calls.rt:205:1
 returns-3 : tie.Need-returns-3
 returns-3 c = search needs
 
