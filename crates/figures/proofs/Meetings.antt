@@ -2,18 +2,18 @@
 use mathlib.Core.Path.{_≡_, refl, ap, _∙_}
 use mathlib.Core.Bool.{_||_}
 use mathlib.Core.List.{List}
-use Prim.Native.Nat.{ℕ, suc, _+_, _-_, _/_, _%_, _^_, _<_, _≤_}
+use Prim.Native.Nat.{ℕ, _+_, _%_, _^_, _<_, _≤_}
 use native.Mathlib.Omega.{arith}
 use native.Mathlib.Nat.{mod-lt}
 use lib.Bits.{bitOr}
 use lib.Dec.{eqb, ltb}
 use lib.ListN.{getD}
-use lib.Pow.{field, mod-mod-pow, pow-pos}
+use lib.Pow.{pow-pos}
 use Rattle.robinx.specs.Sums.{sumTo}
 use Rattle.robinx.specs.Groups.{bit, has}
 use Rattle.robinx.specs.Timetable.{meet}
 use Rattle.robinx.specs.Deviations.{tooClose}
-use Rattle.masks.proofs.Bits.{at-bits, or-has}
+use Rattle.masks.proofs.Bits.{at-bits, or-has, mod-bit}
 use Rattle.masks.proofs.Width.{closeness-stop}
 use Rattle.masks.proofs.Walk.{close-ext}
 use Rattle.timetable.specs.Tables.{xOf, cell}
@@ -21,12 +21,7 @@ use Rattle.figures.specs.Pairs.{closeness}
 
 -- a mask's first slots are its own
 pub front-has : (m P k : ℕ) → k < P → has (m % 2 ^ P) k ≡ has m k
-front-has m P k l =
-    let j = P - suc k in
-    let e : P ≡ j + 1 + k = omega arith in
-    ap (λ (z : ℕ). eqb (m % 2 ^ z / 2 ^ k % 2) 1) e
-    ∙ ap (λ (z : ℕ). eqb (z % 2) 1) (field m (j + 1) k)
-    ∙ ap (λ (z : ℕ). eqb z 1) (mod-mod-pow (m / 2 ^ k) j 1)
+front-has m P k l = ap (λ (z : ℕ). eqb z 1) (mod-bit P k m l)
 
 -- slot k is in one of the masks
 in-either : (m n k : ℕ) → has m k || has n k ≡ ltb 0 (bit m k + bit n k)

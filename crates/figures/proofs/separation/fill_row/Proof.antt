@@ -60,19 +60,13 @@ room c =
     row-room (row-to-next (l .inv .2) x) (h .2) (omega arith) (x .room) (h .3) (x .member)
 
 mul-out : tie.Need-mul-out Inv-loop μ-loop
-mul-out c =
-    let l = c .before .before .loop in
-    let s = c .before .before .before .before .before in
-    omega (arith, room (c .before), l .inv .2 .filled .long, s .pre .4 .filled .long, s .good)
+mul-out c = let r = room (c .before) in search needs
 
 slice-write-out : tie.Need-slice-write-out Inv-loop μ-loop
 slice-write-out c = room (c .before)
 
 add-at : tie.Need-add-at Inv-loop μ-loop
-add-at c =
-    let l = c .before .before .loop in
-    let s = c .before .before .before .before .before in
-    omega (arith, room (c .before), l .inv .2 .filled .long, s .pre .4 .filled .long, s .good)
+add-at c = let r = room (c .before) in search needs
 
 cast-rest : tie.Need-cast-rest Inv-loop μ-loop
 cast-rest c = let x = member (c .before) in search needs
