@@ -88,6 +88,16 @@ one-some zero zero h = absurd (h refl)
 one-some zero (suc b) h = refl
 one-some (suc a) b h = refl
 
+-- an unknown kind asks for no slot
+no-slot : (b : ℕ) → atSlot (λ k. false) b ≡ false
+unfolding atSlot
+no-slot zero = refl
+no-slot (suc k) = refl
+
+pub unknown-slots : (c : Constraint) (a b : ℕ) → kindOf (c .kind) ≡ Kind.unknown → false ≡ slotAsked c a || slotAsked c b
+unfolding slotAsked
+unknown-slots c a b e = rw (e, no-slot a, no-slot b)
+
 -- what two numbers that follow each other share
 two : {B : Type 0} (f : ℕ → B) (a k : ℕ) → a ≤ k → k < a + 2 → f a ≡ f (suc a) → f k ≡ f a
 two f a k l h same =

@@ -35,7 +35,7 @@ slotAskedOf Kind.BR2 s = reaches s
 slotAskedOf Kind.FA1 s = reaches s
 slotAskedOf Kind.FA2 s = reaches s
 slotAskedOf Kind.SE1 s = λ k. true
-slotAskedOf Kind.unknown s = has s
+slotAskedOf Kind.unknown s = λ k. false
 
 -- a test of slots at a slot of the sheet, which counts from 1; 0 is none
 unfoldable pub atSlot : (ℕ → Bool) → ℕ → Bool

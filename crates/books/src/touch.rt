@@ -152,7 +152,7 @@ fn slots_asked(c: Constraint, a: u8, b: u8) -> bool
         31..=32 => one_reaches(c.s, a, b),
         41..=42 => one_reaches(c.s, a, b),
         51 => true,
-        _ => one_in(c.s, a, b),
+        _ => false,
     }
 }
 

@@ -1,11 +1,10 @@
 -- The slots that each class of kinds asks for.
 use mathlib.Core.Path.{sym}
-use mathlib.Core.Logic.{⊎-elim}
 use native.Mathlib.Omega.{arith}
 use Rattle.robinx.specs.Kinds.{kindOf}
 use Rattle.books.specs.Touched.{slotAsked}
 use Rattle.robinx.proofs.Unknown.{unknown-kind}
-use Rattle.books.proofs.Asked.{one-some, break-slots, fairness-slots}
+use Rattle.books.proofs.Asked.{one-some, unknown-slots, break-slots, fairness-slots}
 use borrow.Author.Needs.{needs}
 use Rattle.books.proofs.touch.slots_asked.Statement.{statement}
 use Rattle.books.proofs.touch.slots_asked.Tie as tie
@@ -21,9 +20,6 @@ one-reaches-requires c κs = search needs
 
 one-reaches-requires-2 : tie.Need-one-reaches-requires-2
 one-reaches-requires-2 c κs = search needs
-
-one-in-requires-2 : tie.Need-one-in-requires-2
-one-in-requires-2 c κs = search needs
 
 returns : tie.Need-returns
 unfolding slotAsked kindOf
@@ -49,12 +45,16 @@ returns-5 c =
     rw (fairness-slots (a .s) (a .kind) (c .before .before .if5 .left) (omega arith)) (c .one-reaches2 .ensures)
 
 returns-6 : tie.Need-returns-6
-unfolding slotAsked
-returns-6 c =
-    let a = c .before .before .before .args .c in
-    rw (unknown-kind (a .kind)
-    (⊎-elim (λ w. omega arith) (⊎-elim (λ w. omega arith) (⊎-elim (λ w. omega arith) (λ w. omega arith))) (c .before .if1 .came)))
-    (c .one-in2 .ensures)
+returns-6 c = let a = c .before .before .args in unknown-slots (a .c) (a .a) (a .b) (unknown-kind (a .c .kind) (omega arith))
+
+returns-7 : tie.Need-returns-7
+returns-7 c = let a = c .before .before .before .before .args in unknown-slots (a .c) (a .a) (a .b) (unknown-kind (a .c .kind) (omega arith))
+
+returns-8 : tie.Need-returns-8
+returns-8 c = let a = c .before .before .before .before .before .before .args in unknown-slots (a .c) (a .a) (a .b) (unknown-kind (a .c .kind) (omega arith))
+
+returns-9 : tie.Need-returns-9
+returns-9 c = let a = c .before .before .before .before .before .before .before .args in unknown-slots (a .c) (a .a) (a .b) (unknown-kind (a .c .kind) (omega arith))
 
 pub slots-asked-spec : {M : Type 1} → statement M
 slots-asked-spec =
@@ -64,10 +64,12 @@ slots-asked-spec =
     capacity-slots-requires
     one-reaches-requires
     one-reaches-requires-2
-    one-in-requires-2
     returns
     returns-2
     returns-3
     returns-4
     returns-5
-    returns-6)
+    returns-6
+    returns-7
+    returns-8
+    returns-9)
