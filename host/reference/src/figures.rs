@@ -1,6 +1,6 @@
 //! What each kind counts, and the penalty.
 
-use crate::season::{Constraint, Season};
+use crate::season::{unknown, Constraint, Season};
 
 /// One game as a team sees it.
 #[derive(Clone, Copy, PartialEq, Eq, Debug)]
@@ -36,10 +36,11 @@ impl Diaries {
 
 /// Whether a mode asks for home games (for away games, if `at_home` is false).
 fn asks(mode: u8, at_home: bool) -> bool {
-    match (mode - 1) % 3 {
-        0 => at_home,
-        1 => !at_home,
-        _ => true,
+    match mode {
+        1 | 4 => at_home,
+        2 | 5 => !at_home,
+        3 | 6 => true,
+        _ => panic!("no mode has the number {mode}"),
     }
 }
 
@@ -73,7 +74,8 @@ pub fn deviations(season: &Season, diaries: &Diaries, c: &Constraint) -> Vec<u32
         32 => vec![too_many_breaks(c, teams.iter().map(|&t| breaks(season, diaries, c, t)).sum())],
         41 => teams.iter().map(|&t| home_away_gap(season, diaries, c, t)).collect(),
         42 => pairs.iter().map(|&(i, j)| games_gap(season, diaries, c, i, j)).collect(),
-        _ => pairs.iter().map(|&(i, j)| closeness(season, diaries, c, i, j)).collect(),
+        51 => pairs.iter().map(|&(i, j)| closeness(season, diaries, c, i, j)).collect(),
+        kind => unknown(kind),
     };
     found.into_iter().map(|d| d as u32).collect()
 }
@@ -186,7 +188,8 @@ pub fn penalty(c: &Constraint, deviations: &[u32]) -> u64 {
         2 => wide().sum::<u64>().pow(2),
         3 => wide().map(|d| d * d).sum(),
         4 => wide().min().unwrap_or(0),
-        _ => wide().max().unwrap_or(0),
+        5 => wide().max().unwrap_or(0),
+        other => panic!("no function has the number {other}"),
     };
     c.weight * of_all
 }

@@ -45,10 +45,16 @@ impl Constraint {
         match self.kind {
             11 | 12 | 13 | 31 | 41 => teams,
             14 if self.mode > 3 => size(&self.s),
+            14 | 21 | 32 => 1,
             42 | 51 => teams * (teams - 1) / 2,
-            _ => 1,
+            kind => unknown(kind),
         }
     }
+}
+
+/// Every kind is named wherever kinds differ; `read` lets no other one through.
+pub(crate) fn unknown(kind: u8) -> ! {
+    panic!("no kind has the number {kind}")
 }
 
 impl Season {
@@ -125,19 +131,37 @@ fn read_constraint(head: &[u8], body: &[u8], teams: usize, slots: usize) -> Opti
         _ => return None,
     };
     let enough_teams = match kind {
+        11 | 13 | 21 | 31 | 41 => in_t1 >= 1,
         12 => in_t1 >= 1 && (in_t1 > 1 || in_t2 > 1),
         14 | 32 | 42 | 51 => in_t1 > 1,
-        _ => in_t1 >= 1,
+        _ => return None,
     };
-    let t2_fits = if [12, 13, 14, 21].contains(&kind) { in_t2 >= 1 } else { in_t2 == 0 };
-    let s_fits = if kind == 13 || kind == 51 { in_s == 0 } else { in_s >= 1 };
-    let kmin_fits = if kind <= 21 { kmin <= kmax } else { kmin == 0 };
+    let t2_fits = match kind {
+        12 | 13 | 14 | 21 => in_t2 >= 1,
+        11 | 31 | 32 | 41 | 42 | 51 => in_t2 == 0,
+        _ => return None,
+    };
+    let s_fits = match kind {
+        11 | 12 | 14 | 21 | 31 | 32 | 41 | 42 => in_s >= 1,
+        13 | 51 => in_s == 0,
+        _ => return None,
+    };
+    let kmin_fits = match kind {
+        11 | 12 | 13 | 14 | 21 => kmin <= kmax,
+        31 | 32 | 41 | 42 | 51 => kmin == 0,
+        _ => return None,
+    };
     let kmax_fits = match kind {
-        51 => kmax == 0,
+        11 | 12 | 13 | 14 | 21 | 31 | 41 | 42 => true,
         32 => kmax > 0,
-        _ => true,
+        51 => kmax == 0,
+        _ => return None,
     };
-    let w_fits = if kind == 13 || kind == 51 { w >= 1 } else { w == 0 };
+    let w_fits = match kind {
+        13 | 51 => w >= 1,
+        11 | 12 | 14 | 21 | 31 | 32 | 41 | 42 => w == 0,
+        _ => return None,
+    };
     let head_fits = hard <= 1 && (1..=5).contains(&function) && weight >= 1;
 
     let keeps = mode_is_allowed && enough_teams && t2_fits && s_fits && kmin_fits && kmax_fits && w_fits && head_fits;

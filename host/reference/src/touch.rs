@@ -1,6 +1,6 @@
 //! Which constraints a change of one game touches.
 
-use crate::season::{Constraint, Game};
+use crate::season::{unknown, Constraint, Game};
 
 /// Whether the game's change from slot a to slot b (0: unplaced) touches the constraint.
 pub fn touched(c: &Constraint, game: Game, a: u8, b: u8) -> bool {
@@ -21,6 +21,7 @@ pub fn touched(c: &Constraint, game: Game, a: u8, b: u8) -> bool {
         21 => c.t1[i] && c.t2[j] && within_s,
         31 | 32 => one_in_t1 && up_to_last,
         41 | 42 => both_in_t1 && up_to_last,
-        _ => both_in_t1,
+        51 => both_in_t1,
+        kind => unknown(kind),
     }
 }
