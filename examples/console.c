@@ -13,96 +13,67 @@
 
 #include "season_checker.h"
 
-/* The buffers that are lent to each call. */
-struct table {
-    uint8_t *season, *sheet;
-    uint32_t *ledger;
-    uint64_t *tally;
-    size_t season_len, sheet_len, ledger_len, tally_len;
-};
-
-static const char *const refusals[] = {
-    "", "the season has fewer than 6 bytes", "a size is out of range", "the season has not the length that its sizes ask for",
-    "a game has wrong teams, or a pair meets more than 8 times", "a constraint breaks a rule of its kind", "too many deviations",
-    "sheet, ledger or tally has not the right length", "the sheet has a wrong slot, or a team has two games in one slot",
-    "there is no such game", "there is no such slot", "both games are the same", "one of the games is unplaced",
-    "a team would have two games in one slot"
-};
-
 static const char *const verdicts[] = { "feasible", "a game is unplaced", "a hard constraint is broken" };
 
-static const char *kind_name(uint8_t kind)
-{
-    switch (kind) {
-    case 11: return "CA1";
-    case 12: return "CA2";
-    case 13: return "CA3";
-    case 14: return "CA4";
-    case 21: return "GA1";
-    case 31: return "BR1";
-    case 32: return "BR2";
-    case 41: return "FA1";
-    case 42: return "FA2";
-    case 51: return "SE1";
-    default: return "?";
-    }
-}
-
-/* A buffer is never null, even with no items. */
+/* Memory for some items, all 0; null where there are none, which is allowed. */
 static void *lend(size_t items, size_t size)
 {
-    void *p = calloc(items + 1, size);
-    if (p == NULL) {
+    void *p = items > 0 ? calloc(items, size) : NULL;
+    if (p == NULL && items > 0) {
         fprintf(stderr, "console: out of memory\n");
         exit(2);
     }
     return p;
 }
 
-/* Reads a season and its sheet and makes the buffers that they need. */
-static struct table load(const char *name)
+/* Reads a season and its sheet and makes the buffers that they need. The season's memory is handed back to be freed. */
+static season_buffers load(const char *name, uint8_t **bytes)
 {
     enum { MOST = SEASON_MAX_BYTES + SEASON_MAX_GAMES + 1 };
-    static uint8_t bytes[MOST];
-    struct table t;
+    season_buffers lent;
     size_t length;
     FILE *file = fopen(name, "rb");
     if (file == NULL) {
         fprintf(stderr, "console: %s: %s\n", name, strerror(errno));
         exit(2);
     }
-    length = fread(bytes, 1, MOST, file);
+    *bytes = lend(MOST, 1);
+    length = fread(*bytes, 1, MOST, file);
+    if (ferror(file)) {
+        fprintf(stderr, "console: %s: %s\n", name, strerror(errno));
+        exit(2);
+    }
     fclose(file);
 
-    t.season_len = season_end(bytes, length);
-    t.sheet_len = length - t.season_len;
-    t.ledger_len = season_ledger_items(bytes, t.season_len);
-    t.tally_len = t.season_len < 6 ? 2 : bytes[4] + 256 * (size_t)bytes[5] + 2;
-    t.season = lend(t.season_len, sizeof *t.season);
-    t.sheet = lend(t.sheet_len, sizeof *t.sheet);
-    t.ledger = lend(t.ledger_len, sizeof *t.ledger);
-    t.tally = lend(t.tally_len, sizeof *t.tally);
-    memcpy(t.season, bytes, t.season_len);
-    memcpy(t.sheet, bytes + t.season_len, t.sheet_len);
-    return t;
+    lent.season = *bytes;
+    lent.season_len = season_end(*bytes, length);
+    lent.sheet_len = length - lent.season_len;
+    lent.ledger_len = season_ledger_items(lent.season, lent.season_len);
+    lent.tally_len = season_tally_items(lent.season, lent.season_len);
+    lent.sheet = lend(lent.sheet_len, sizeof *lent.sheet);
+    lent.ledger = lend(lent.ledger_len, sizeof *lent.ledger);
+    lent.tally = lend(lent.tally_len, sizeof *lent.tally);
+    if (lent.sheet_len > 0) {
+        memcpy(lent.sheet, *bytes + lent.season_len, lent.sheet_len);
+    }
+    return lent;
 }
 
 /* Verdict and totals with their changes, then the penalties above 0. */
-static void show(const struct table *t, season_reply reply)
+static void show(const season_buffers *lent, season_reply reply)
 {
-    size_t c, constraints = t->tally_len - 2;
-    const uint8_t *heads;
+    size_t c, constraints = lent->tally_len - 2;
     if (reply.declined) {
-        printf("  refused %u: %s\n", reply.number, refusals[reply.number]);
+        printf("  refused %u: %s\n", reply.number, season_refusal_text(reply.number));
         return;
     }
     printf("  verdict %u (%s), infeasibility %" PRIu64 " (%+" PRId64 "), objective %" PRIu64 " (%+" PRId64 ")\n", reply.number,
-           verdicts[reply.number], t->tally[constraints], reply.infeasibility, t->tally[constraints + 1], reply.objective);
-    heads = t->season + t->season_len - 24 * constraints;
+           verdicts[reply.number], lent->tally[constraints], reply.infeasibility, lent->tally[constraints + 1], reply.objective);
     for (c = 0; c < constraints; c++) {
-        if (t->tally[c] > 0) {
-            printf("  constraint %zu %s %s: penalty %" PRIu64 "\n", c, heads[8 * c + 2] ? "hard" : "soft", kind_name(heads[8 * c]),
-                   t->tally[c]);
+        const uint8_t *head = season_head(lent->season, lent->season_len, c);
+        if (lent->tally[c] > 0) {
+            printf("  constraint %zu %s %s: penalty %" PRIu64 "\n", c, head[2] ? "hard" : "soft",
+                   season_kind_row_of(head[0], head[1])->name, lent->tally[c]);
         }
     }
 }
@@ -120,7 +91,7 @@ static int number(const char *word, uint64_t *value)
 }
 
 /* Makes one move and shows the figures; 0 if it is not a move. */
-static int move(struct table *t, const char *what, const char *first, const char *second)
+static int move(const season_buffers *lent, const char *what, const char *first, const char *second)
 {
     uint64_t a, b;
     season_reply reply;
@@ -128,20 +99,19 @@ static int move(struct table *t, const char *what, const char *first, const char
         return 0;
     }
     if (strcmp(what, "set") == 0) {
-        reply = season_set(t->season, t->season_len, t->sheet, t->sheet_len, t->ledger, t->ledger_len, t->tally, t->tally_len, a, b);
+        reply = season_buffers_set(lent, a, b);
     } else if (strcmp(what, "exchange") == 0) {
-        reply =
-            season_exchange(t->season, t->season_len, t->sheet, t->sheet_len, t->ledger, t->ledger_len, t->tally, t->tally_len, a, b);
+        reply = season_buffers_exchange(lent, a, b);
     } else {
         return 0;
     }
     printf("%s %" PRIu64 " %" PRIu64 "\n", what, a, b);
-    show(t, reply);
+    show(lent, reply);
     return 1;
 }
 
 /* Moves from standard input. */
-static int move_lines(struct table *t)
+static int move_lines(const season_buffers *lent)
 {
     char line[256];
     unsigned long at = 0;
@@ -155,7 +125,7 @@ static int move_lines(struct table *t)
         }
         first = strtok(NULL, " \t\r");
         second = strtok(NULL, " \t\r");
-        if (strtok(NULL, " \t\r") != NULL || !move(t, what, first, second)) {
+        if (strtok(NULL, " \t\r") != NULL || !move(lent, what, first, second)) {
             fprintf(stderr, "console: line %lu: a move is 'set GAME SLOT' or 'exchange GAME GAME'\n", at);
             return 0;
         }
@@ -167,30 +137,31 @@ int main(int argc, char **argv)
 {
     int at = 1, good = 1;
     const char *name = "examples/season-a.bin";
-    struct table t;
+    uint8_t *bytes;
+    season_buffers lent;
     season_reply reply;
     if (argc > 1 && strcmp(argv[1], "set") != 0 && strcmp(argv[1], "exchange") != 0) {
         name = argv[at++];
     }
-    t = load(name);
+    lent = load(name, &bytes);
     printf("open %s\n", name);
-    reply = season_open(t.season, t.season_len, t.sheet, t.sheet_len, t.ledger, t.ledger_len, t.tally, t.tally_len);
-    show(&t, reply);
+    reply = season_buffers_open(&lent);
+    show(&lent, reply);
     if (reply.declined) {
         good = 0;
     } else if (at == argc) {
-        good = move_lines(&t);
+        good = move_lines(&lent);
     } else {
         for (; good && at < argc; at += 3) {
-            good = at + 2 < argc && move(&t, argv[at], argv[at + 1], argv[at + 2]);
+            good = at + 2 < argc && move(&lent, argv[at], argv[at + 1], argv[at + 2]);
             if (!good) {
                 fprintf(stderr, "console: a move is 'set GAME SLOT' or 'exchange GAME GAME'\n");
             }
         }
     }
-    free(t.season);
-    free(t.sheet);
-    free(t.ledger);
-    free(t.tally);
+    free(bytes);
+    free(lent.sheet);
+    free(lent.ledger);
+    free(lent.tally);
     return good ? 0 : 1;
 }

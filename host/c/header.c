@@ -1,4 +1,4 @@
-/* The header by itself, as C and as C++: layout of the reply, constants, helpers, and one round of calls. */
+/* The header by itself, as C and as C++: layout of the structs, constants, helpers, null at length 0, and rounds of calls. */
 #include "season_checker.h"
 
 #include <stdio.h>
@@ -24,6 +24,13 @@ static const uint8_t season[] = {
     1, 2 /* the sheet */
 };
 
+/* SEASON_CHECKER_VERSION as a number. */
+static int version(void)
+{
+    int major = 0, minor = 0, patch = 0;
+    return sscanf(SEASON_CHECKER_VERSION, "%d.%d.%d", &major, &minor, &patch) == 3 ? 10000 * major + 100 * minor + patch : -1;
+}
+
 int main(void)
 {
     int failed = 0;
@@ -31,7 +38,10 @@ int main(void)
     uint32_t ledger[3];
     uint64_t tally[4];
     season_reply reply;
+    season_buffers lent;
     size_t end = season_end(season, sizeof season);
+    const uint8_t none[6] = { 2, 1, 0, 0, 0, 0 };
+    uint8_t unknown[sizeof season];
 
     CHECK(sizeof(season_reply) == 24);
     CHECK(offsetof(season_reply, declined) == 0);
@@ -45,6 +55,31 @@ int main(void)
     CHECK(season_ledger_items(season, end) == 3);
     CHECK(season_ledger_items(season, end - 1) == 0);
     CHECK(season_ledger_items(season, 0) == 0);
+    CHECK(season_sheet_items(season, end) == 2);
+    CHECK(season_tally_items(season, end) == 4);
+    CHECK(season_head(season, end, 1) == season + 18 && season_body(season, end, 1) == season + 42);
+    CHECK(season_head(season, end, 2) == NULL && season_body(season, end - 1, 0) == NULL);
+    CHECK(season_deviations(season, end, 0) == 1 && season_deviations(season, end, 1) == 2 && season_deviations(season, end, 2) == 0);
+    CHECK(season_ledger_first(season, end, 0) == 0 && season_ledger_first(season, end, 1) == 1 && season_ledger_first(season, end, 2) == 3);
+    CHECK(season_end(NULL, 0) == 0 && season_ledger_items(NULL, 0) == 0 && season_tally_items(NULL, 0) == 2);
+
+    /* A kind that is not known has no row, no deviation, and its season no E. */
+    memcpy(unknown, season, sizeof season);
+    unknown[10] = 10;
+    CHECK(season_kind_row_of(10, 1) == NULL && season_kind_row_of(11, 4) == NULL && season_kind_row_of(11, 0) == NULL);
+    CHECK(season_deviations(unknown, end, 0) == 0 && season_deviations(unknown, end, 1) == 2);
+    CHECK(season_ledger_items(unknown, end) == 0);
+
+    CHECK(strcmp(season_kind_row_of(SEASON_KIND_CA4, SEASON_MODE_EACH_ANY)->name, "CA4") == 0);
+    CHECK(season_kind_row_of(SEASON_KIND_CA4, SEASON_MODE_ANY)->per == SEASON_PER_CONSTRAINT);
+    CHECK(season_kind_row_of(SEASON_KIND_CA4, SEASON_MODE_EACH_HOME)->per == SEASON_PER_SLOT);
+    CHECK(season_kind_row_of(SEASON_KIND_BR1, SEASON_MODE_EXACTLY_AWAY)->per == SEASON_PER_TEAM);
+    CHECK(season_kind_row_of(SEASON_KIND_SE1, SEASON_MODE_HOME)->per == SEASON_PER_PAIR);
+    CHECK(SEASON_FUNCTION_SUM == 1 && SEASON_FUNCTION_SQUARE_OF_SUM == 2 && SEASON_FUNCTION_SUM_OF_SQUARES == 3);
+    CHECK(SEASON_FUNCTION_SMALLEST == 4 && SEASON_FUNCTION_LARGEST == 5);
+    CHECK(strcmp(season_refusal_text(SEASON_REFUSED_SAME), "both games are the same") == 0);
+    CHECK(strcmp(season_refusal_text(14), "no refusal has this number") == 0);
+    CHECK(SEASON_CHECKER_VERSION_NUMBER == version());
 
     memcpy(sheet, season + end, 2);
     reply = season_open(season, end, sheet, 2, ledger, 3, tally, 4);
@@ -62,5 +97,35 @@ int main(void)
     CHECK(reply.declined && reply.number == SEASON_REFUSED_SLOT);
     reply = season_set(season, end, sheet, 2, ledger, 3, tally, 3, 2, 0);
     CHECK(reply.declined && reply.number == SEASON_REFUSED_LENGTHS);
+
+    /* The same by way of the struct. */
+    lent.season = season;
+    lent.season_len = end;
+    lent.sheet = sheet;
+    lent.sheet_len = 2;
+    lent.ledger = ledger;
+    lent.ledger_len = 3;
+    lent.tally = tally;
+    lent.tally_len = 4;
+    memcpy(sheet, season + end, 2);
+    reply = season_buffers_open(&lent);
+    CHECK(!reply.declined && reply.number == SEASON_INFEASIBLE && reply.infeasibility == 4 && reply.objective == 2);
+    reply = season_buffers_exchange(&lent, 0, 1);
+    CHECK(!reply.declined && reply.number == SEASON_INFEASIBLE && sheet[0] == 2 && sheet[1] == 1);
+    reply = season_buffers_set(&lent, 0, 0);
+    CHECK(!reply.declined && reply.number == SEASON_UNPLACED && reply.infeasibility == -4 && sheet[0] == 0);
+
+    /* Null where the length is 0. */
+    tally[0] = tally[1] = 7;
+    reply = season_open(none, sizeof none, NULL, 0, NULL, 0, tally, 2);
+    CHECK(!reply.declined && reply.number == SEASON_FEASIBLE && tally[0] == 0 && tally[1] == 0);
+    reply = season_set(none, sizeof none, NULL, 0, NULL, 0, tally, 2, 0, 0);
+    CHECK(reply.declined && reply.number == SEASON_REFUSED_GAME);
+    reply = season_exchange(none, sizeof none, NULL, 0, NULL, 0, tally, 2, 0, 1);
+    CHECK(reply.declined && reply.number == SEASON_REFUSED_GAME);
+    reply = season_open(none, sizeof none, NULL, 0, NULL, 0, NULL, 0);
+    CHECK(reply.declined && reply.number == SEASON_REFUSED_LENGTHS);
+    reply = season_set(NULL, 0, NULL, 0, NULL, 0, NULL, 0, 0, 0);
+    CHECK(reply.declined && reply.number == SEASON_REFUSED_SHORT);
     return failed;
 }

@@ -3,7 +3,8 @@
  * end: each buffer ends where a page ends, and the next page cannot be read. start: each begins where a page begins, behind a page
  * that cannot be read. In both the season is never writable, the sheet is not while open runs, and nothing is during a call that has
  * to be refused. heap: each buffer is a block of its own of the exact length, for a memory checker; ledger and tally are left unset
- * before an opening.
+ * before an opening. A buffer without items is lent as null. The helpers of the header look at the same season, and give the lengths
+ * of the buffers where the first call opens them.
  */
 #define _DEFAULT_SOURCE
 #include <inttypes.h>
@@ -62,8 +63,12 @@ static struct buffer make(size_t bytes, enum where where)
     b.bytes = bytes;
     b.map = NULL;
     b.pages = 0;
+    b.items = NULL;
+    if (bytes == 0) {
+        return b;
+    }
     if (where == HEAP) {
-        b.items = checked(malloc(bytes > 0 ? bytes : 1));
+        b.items = checked(malloc(bytes));
         return b;
     }
     b.pages = (bytes + page - 1) / page + 1;
@@ -135,6 +140,22 @@ static uint64_t mix(uint64_t hash, uint64_t item)
     return (hash ^ item) * UINT64_C(0x100000001b3);
 }
 
+/* The helpers read nothing outside the season; for one that opens they give the lengths of the buffers. */
+static void ask_helpers(const uint8_t *season, size_t season_len, int opens, size_t sheet_len, size_t ledger_len, size_t tally_len)
+{
+    size_t c, first = 0, end = season_end(season, season_len), items = season_ledger_items(season, season_len);
+    size_t sheet_items = season_sheet_items(season, season_len), tally_items = season_tally_items(season, season_len);
+    for (c = 0; season_head(season, season_len, c) != NULL; c++) {
+        if (c % 64 == 0 && season_ledger_first(season, season_len, c) != first) {
+            die("season_ledger_first");
+        }
+        first += season_deviations(season, season_len, c);
+    }
+    if (opens && (end != season_len || first != ledger_len || items != ledger_len || sheet_items != sheet_len || tally_items != tally_len)) {
+        die("the helpers give other lengths");
+    }
+}
+
 static unsigned long replay_case(enum where where)
 {
     size_t season_len = take32(), sheet_len = take32(), ledger_len = take32(), tally_len = take32();
@@ -154,6 +175,8 @@ static unsigned long replay_case(enum where where)
     take(unset ? NULL : ledger, 4 * ledger_len);
     take(unset ? NULL : tally, 8 * tally_len);
     allow(&season_buffer, where, 0);
+    at_call = 0;
+    ask_helpers(season, season_len, calls > 0 && first_call[0] == 0 && first_call[17] == 0, sheet_len, ledger_len, tally_len);
     for (at_call = 0; at_call < calls; at_call++) {
         uint8_t what = take8();
         uint64_t a = take64(), b = take64();

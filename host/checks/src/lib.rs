@@ -1,6 +1,7 @@
 //! What the tests share: calls of the library on guarded buffers, random seasons and calls, comparison with the independent checker.
 
 mod compare;
+pub mod helpers;
 mod library;
 mod moves;
 mod random;

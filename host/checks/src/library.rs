@@ -3,11 +3,19 @@
 use reference::{Buffers, Call, Reply};
 
 #[repr(C)]
-struct RawReply {
+pub(crate) struct RawReply {
     declined: u8,
     number: u8,
     infeasibility: i64,
     objective: i64,
+}
+
+impl RawReply {
+    /// The first byte has to be 0 or 1.
+    pub(crate) fn reply(self) -> Reply {
+        assert!(self.declined <= 1, "the reply's first byte is {}", self.declined);
+        Reply { declined: self.declined == 1, number: self.number, infeasibility: self.infeasibility, objective: self.objective }
+    }
 }
 
 extern "C" {
@@ -101,7 +109,7 @@ impl Lent {
         self.tally.items_mut().copy_from_slice(&buffers.tally);
     }
 
-    /// Makes a call of the library. The first byte of the reply has to be 0 or 1.
+    /// Makes a call of the library.
     pub fn call(&mut self, call: Call) -> Reply {
         let season = self.season.items();
         let (season, season_len) = (season.as_ptr(), season.len());
@@ -123,8 +131,7 @@ impl Lent {
                 }
             }
         };
-        assert!(raw.declined <= 1, "the reply's first byte is {}", raw.declined);
-        Reply { declined: raw.declined == 1, number: raw.number, infeasibility: raw.infeasibility, objective: raw.objective }
+        raw.reply()
     }
 
     pub fn season(&self) -> &[u8] {
