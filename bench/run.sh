@@ -5,7 +5,7 @@ set -eu
 cd "$(dirname "$0")/.."
 out=${1:-docs/BENCHMARKS.md}
 work=$(pwd)/target/bench
-export CARGO_TARGET_DIR=$(pwd)/target/cargo
+export CARGO_TARGET_DIR="$(pwd)/target/cargo"
 mkdir -p "$work"
 make -s all
 cargo build --release --offline --quiet --manifest-path host/Cargo.toml --package bench
