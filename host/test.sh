@@ -1,6 +1,7 @@
 #!/bin/sh
-# The tests of what the proof does not cover: the compiled library behind its C interface against an independent checker, the header,
-# the installed files, the example, the text form. Needs make, cargo, cc; uses a C++ compiler, pkg-config and valgrind where there are any.
+# The tests of what the proof does not cover: the compiled library behind its C interface against an independent checker, the header and
+# its helpers, the installed files, the shared library, the examples, the commands, the documents, the text form. Needs make, cargo, cc; uses
+# C++ compilers, clang, pkg-config, Python and valgrind where there are any.
 #
 #   host/test.sh          or: make host-test
 #   HOST_TIMES=10 ..      ten times as many random seasons
@@ -9,7 +10,7 @@ set -eu
 cd "$(dirname "$0")/.."
 root=$(pwd)
 work=$root/target/host
-export CARGO_TARGET_DIR=$root/target/cargo
+export CARGO_TARGET_DIR="$root/target/cargo"
 CC=${CC:-cc}
 mkdir -p "$work"
 command -v cargo > /dev/null || PATH=$PATH:$HOME/.cargo/bin
@@ -26,22 +27,27 @@ step library, example, text tool
 make -s all console text
 
 step header as C and as C++
-for standard in c99 c11 c17; do
-    $CC -std=$standard -Wall -Wextra -Wpedantic -Werror -Iinclude host/c/header.c target/libseason_checker.a -o "$work/header"
-    "$work/header"
-done
-if has "${CXX:-c++}"; then
-    for standard in c++11 c++20; do
-        ${CXX:-c++} -std=$standard -Wall -Wextra -Wpedantic -Werror -Iinclude -x c++ host/c/header.c -x none \
-            target/libseason_checker.a -o "$work/header"
+strict='-Wall -Wextra -Wpedantic -Wconversion -Wsign-conversion -Werror'
+for compiler in "$CC" clang; do
+    has "$compiler" || continue
+    for standard in c99 c11 c17; do
+        $compiler -std=$standard $strict -Iinclude host/c/header.c target/libseason_checker.a -o "$work/header"
         "$work/header"
     done
-fi
+done
+for compiler in "${CXX:-c++}" clang++; do
+    has "$compiler" || continue
+    for standard in c++11 c++14 c++17 c++20; do
+        $compiler -std=$standard $strict -Iinclude -x c++ host/c/header.c -x none target/libseason_checker.a -o "$work/header"
+        "$work/header"
+    done
+done
 
 step example
 target/console < examples/season-a.moves > "$work/console.out"
 cmp examples/season-a.console "$work/console.out"
 # the same moves on the command line
+# shellcheck disable=SC2046
 target/console $(sed 's/#.*//' examples/season-a.moves) | cmp examples/season-a.console -
 for wrong in 'set 0' 'move 0 1' 'set 0 -1' 'set 0 1x' 'set 0 18446744073709551616' 'set 0 1 2'; do
     if echo "$wrong" | target/console > "$work/console.out" 2>&1; then
@@ -54,15 +60,37 @@ if target/console "$work/cut.bin" set 0 0 > "$work/console.out"; then exit 1; fi
 grep -q 'refused 3' "$work/console.out"
 
 step installed files
-rm -rf "$work/prefix"
-make -s install PREFIX="$work/prefix"
+prefix="$work/a prefix"
+rm -rf "$prefix"
+make -s install PREFIX="$prefix"
 if has pkg-config; then
-    flags=$(PKG_CONFIG_PATH=$work/prefix/lib/pkgconfig pkg-config --cflags --libs season_checker)
+    export PKG_CONFIG_PATH="$prefix/lib/pkgconfig"
+    flags=$(pkg-config --cflags --libs season_checker)
+    grep -q "^#define SEASON_CHECKER_VERSION \"$(pkg-config --modversion season_checker)\"\$" "$prefix/include/season_checker.h"
+    eval "$CC -Wall -Wextra -Werror examples/console.c $flags -o '$work/console'"
 else
-    flags="-I$work/prefix/include -L$work/prefix/lib -lseason_checker"
+    $CC -Wall -Wextra -Werror -I"$prefix/include" examples/console.c "$prefix/lib/libseason_checker.a" -o "$work/console"
 fi
-$CC -Wall -Wextra -Werror examples/console.c $flags -o "$work/console"
 "$work/console" < examples/season-a.moves | cmp examples/season-a.console -
+# the same with the shared library
+$CC -Wall -Wextra -Werror -I"$prefix/include" examples/console.c -L"$prefix/lib" -lseason_checker -o "$work/console"
+LD_LIBRARY_PATH=$prefix/lib "$work/console" < examples/season-a.moves | cmp examples/season-a.console -
+if has python3; then
+    for library in target/libseason_checker.so "$prefix/lib/libseason_checker.so"; do
+        SEASON_CHECKER=$library python3 examples/season.py examples/season-a.bin 0 0 0 2 2 0 | cmp examples/season-a.python -
+    done
+    head -c 113 examples/season-a.bin > "$work/cut.bin"
+    python3 examples/season.py "$work/cut.bin" > "$work/python.out"
+    grep -q '^refused 3 ' "$work/python.out"
+fi
+make -s uninstall PREFIX="$prefix"
+[ -z "$(find "$prefix" ! -type d)" ]
+
+step commands
+host/commands.sh
+
+step commands in the documents
+host/documents.sh README.md docs/FORMAT.md docs/KINDS.md
 
 step text form of the examples
 for name in season-a league18 largest32 mixed32; do
