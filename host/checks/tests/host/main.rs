@@ -2,6 +2,7 @@
 
 mod every_call;
 mod helpers;
+mod kinds;
 mod lists;
 mod named;
 mod refusals;
