@@ -1,5 +1,6 @@
 //! The proved library, linked as C, against an independent checker and against figures worked out by hand.
 
+mod documents;
 mod every_call;
 mod helpers;
 mod kinds;
