@@ -29,7 +29,7 @@ help:
 	@echo 'make host-test            the tests of what the proof does not cover; .ci/run runs all tests'
 	@echo 'make bench                docs/BENCHMARKS.md'
 	@echo 'make clean                removes target/, so that everything is proved and built again'
-	@echo 'PROVED=FILE               takes a ready archive and proves nothing; PROVED_REPORT=FILE takes a ready program season_report'
+	@echo 'PROVED=FILE               takes a ready archive and proves nothing; PROVED_REPORT=FILE the same for the program season_report'
 	@echo 'Needs rt (the Rattle toolchain), make and cc; cargo for text, host-test and bench. For x86-64 only.'
 
 target/staticlib/libchecker.a: $(SOURCES)

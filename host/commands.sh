@@ -101,6 +101,8 @@ esac
 END
     chmod +x "$work/bin/rt"
 }
+# Makes a file older than the sources, whatever they hold.
+age() { touch -t 200001010000 "$1"; }
 calls() { grep -c "^$1" "$RT_CALLS" || true; }
 
 copy() {
@@ -127,7 +129,7 @@ copy() {
     [ "$(calls check)" -eq 2 ]
     expect 0 ./season-report "$season"
     silent
-    touch crates/books/src/lib.rt
+    age target/bin/season_report
     expect 0 ./season-report "$season"
     expect 0 ./season-report "$season"
     silent
@@ -143,12 +145,17 @@ copy() {
     expect 0 make -s
     said '  [0-9]* of [0-9]*: checker proved'
     expect 0 make -s
-    touch crates/books/src/lib.rt
+    age target/staticlib/libchecker.a
     expect 0 make -s
     [ "$(calls staticlib)" -eq 1 ] || wrong 'make proves again what is proved'
     echo '// a change' >> crates/books/src/lib.rt
+    age target/staticlib/libchecker.a
     expect 0 make -s
     [ "$(calls staticlib)" -eq 2 ] || wrong 'make does not see a change'
+    echo 'another archive' > target/staticlib/libchecker.a
+    age target/staticlib/libchecker.a
+    expect 0 make -s
+    [ "$(calls staticlib)" -eq 3 ] || wrong 'make takes another archive for the proved one'
     expect 0 make -s console
     expect 0 target/console examples/season-a.bin set 0 0
     expect 0 make -s install PREFIX="$work/a prefix" DESTDIR="$work/a stage"

@@ -4,8 +4,8 @@
 #   host/prove.sh checker         target/staticlib/libchecker.a
 #   host/prove.sh season_report   target/bin/season_report
 #
-# rt remembers which crates are proved, but not the one that it makes an archive of: for that one a checksum of all that it is made of is
-# kept beside the archive. Exit status: 0 built, or there was nothing to do; 1 not proved; 2 rt is missing or failed.
+# rt remembers which crates are proved, but not the one that it makes an archive of: for that one a checksum of all that it is made of, and
+# of the archive, is kept beside it. Exit status: 0 built, or there was nothing to do; 1 not proved; 2 rt is missing or failed.
 set -u
 cd "$(dirname -- "$0")/.." || exit 2
 crate=$1
@@ -33,14 +33,16 @@ fi
 case $crate in
 checker)
     built=target/staticlib/libchecker.a
-    key=$({
-        rt version
-        echo "$crates"
-        for one in $crates; do
-            find "crates/$one/src" "crates/$one/specs" "crates/$one/proofs" -type f 2> /dev/null
-        done | LC_ALL=C sort | xargs sha256sum
-    } | sha256sum)
-    if [ -f "$built" ] && [ "$(cat "$built.key" 2> /dev/null)" = "$key" ]; then
+    key() {
+        {
+            rt version
+            echo "$crates"
+            for one in $crates; do
+                find "crates/$one/src" "crates/$one/specs" "crates/$one/proofs" -type f 2> /dev/null
+            done | LC_ALL=C sort | xargs sha256sum "$built"
+        } | sha256sum
+    }
+    if [ -f "$built" ] && [ "$(cat "$built.key" 2> /dev/null)" = "$(key)" ]; then
         touch "$built"
         exit 0
     fi
@@ -77,6 +79,6 @@ if [ "$status" -ne 0 ]; then
     cat "$work/said" >&2
     exit "$status"
 fi
-[ "$crate" != checker ] || printf '%s\n' "$key" > "$built.key"
+[ "$crate" != checker ] || key > "$built.key"
 # Newer than its sources also where rt had nothing to do.
 touch "$built"

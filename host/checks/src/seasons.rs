@@ -148,28 +148,38 @@ impl Draft {
             1 | 2 => 1,
             _ => random.within(1, 255) as u8,
         };
-        let needs_w = kind == 13 || kind == 51;
+        // whether kmin, kmax, w and T2 are used, and the fewest teams of T1; S is used where w is not
+        let (uses_kmin, uses_kmax, needs_w, uses_t2, fewest) = match kind {
+            11 => (true, true, false, false, 1),
+            12 => (true, true, false, true, 1),
+            13 => (true, true, true, true, 1),
+            14 => (true, true, false, true, 2),
+            21 => (true, true, false, true, 1),
+            31 | 41 => (false, true, false, false, 1),
+            32 | 42 => (false, true, false, false, 2),
+            51 => (false, false, true, false, 2),
+            _ => panic!("no kind has the number {kind}"),
+        };
         let w = if needs_w { corner(random, 1, 255.min(self.slots + 2), &[1, self.slots, self.slots + 1, 255]) as u8 } else { 0 };
         let mut kmax = if random.chance(8) { random.one_of(&[64, 128, 254, 255]) } else { random.one_of(&[0u8, 0, 1, 1, 2, 3, 5]) };
         let mut kmin = if random.chance(40) { random.within(0, kmax.into()) as u8 } else { 0 };
         if random.chance(15) {
             kmin = kmax;
         }
-        if kind > 21 {
+        if !uses_kmin {
             kmin = 0;
         }
-        if kind == 51 {
+        if !uses_kmax {
             kmax = 0;
         }
         if kind == 32 {
             kmax = kmax.max(1);
         }
-        let fewest = if [14, 32, 42, 51].contains(&kind) { 2 } else { 1 };
         let t1 = group(random, self.teams, fewest);
-        let t2 = match kind {
-            12 if t1.count_ones() == 1 => group(random, self.teams, 2),
-            12 | 13 | 14 | 21 => group(random, self.teams, 1),
-            _ => 0,
+        let t2 = match uses_t2 {
+            true if kind == 12 && t1.count_ones() == 1 => group(random, self.teams, 2),
+            true => group(random, self.teams, 1),
+            false => 0,
         };
         let s = if needs_w { 0 } else { group(random, self.slots, 1) };
         let mut body = [0; 16];

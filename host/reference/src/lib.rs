@@ -1,5 +1,5 @@
-//! An independent checker. It is written from the scope of the product and the formulas of section 3.2 of the RobinX paper, straight
-//! and slow, and shares nothing with the proved crates: the tests hold the proved library against it.
+//! An independent checker. It is written from docs/FORMAT.md and the formulas of section 3.2 of the RobinX paper, straight and slow, and
+//! shares nothing with the proved crates: the tests hold the proved library against it.
 //!
 //! A sheet is turned into a diary for each team (who, where, in each slot), and every count walks diaries or the list of games.
 

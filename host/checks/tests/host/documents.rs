@@ -1,4 +1,4 @@
-//! The C declarations that documents show are those of the header.
+//! The C declarations that documents show are those of the header, and so is the version.
 
 fn file(name: &str) -> String {
     let path = format!("{}/../../{name}", env!("CARGO_MANIFEST_DIR"));
@@ -32,4 +32,13 @@ fn declarations_are_the_header_s() {
             }
         }
     }
+}
+
+#[test]
+fn the_last_change_is_the_header_s_version() {
+    let header = file("include/season_checker.h");
+    let version = header.split("#define SEASON_CHECKER_VERSION \"").nth(1).unwrap().split('"').next().unwrap();
+    let changes = file("CHANGELOG.md");
+    let last = changes.lines().find_map(|line| line.strip_prefix("## ")).unwrap();
+    assert_eq!(last, version);
 }
