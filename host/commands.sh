@@ -180,3 +180,4 @@ copy() {
 
 report
 copy
+rm -rf "$work"

@@ -72,7 +72,8 @@ else
     $CC -Wall -Wextra -Werror -I"$prefix/include" examples/console.c "$prefix/lib/libseason_checker.a" -o "$work/console"
 fi
 "$work/console" < examples/season-a.moves | cmp examples/season-a.console -
-# the same with the shared library
+# the same with the shared library, which exports what the header declares and nothing else
+[ -z "$(nm -D --defined-only target/libseason_checker.so | awk '$3 !~ /^season_/')" ]
 $CC -Wall -Wextra -Werror -I"$prefix/include" examples/console.c -L"$prefix/lib" -lseason_checker -o "$work/console"
 LD_LIBRARY_PATH=$prefix/lib "$work/console" < examples/season-a.moves | cmp examples/season-a.console -
 if has python3; then
