@@ -1,12 +1,11 @@
 # Builds what stands around the proved crates: the library under its own name, archive and shared; examples; the text tool. Installs, tests,
-# measures. `make help` says what there is. Every path is quoted where a shell sees it: the checkout, PREFIX, DESTDIR, PROVED and PROVED_REPORT may
-# have blanks in them. Paths inside the checkout have none, so they are written relative to it.
+# measures. `make help` says what there is. Every path is quoted where a shell sees it: the checkout, PREFIX, DESTDIR, PROVED and
+# PROVED_REPORT may have blanks in them. Paths inside the checkout have none, so they are written relative to it.
 
 PREFIX ?= /usr/local
 CC ?= cc
 CFLAGS ?= -O2 -g -Wall -Wextra
 INSTALL ?= install
-PYTHON ?= python3
 
 # The header says which version this is.
 VERSION := $(shell sed -n 's/^#define SEASON_CHECKER_VERSION "\(.*\)"/\1/p' include/season_checker.h)
