@@ -1,4 +1,17 @@
-//! The words of the text form: kinds, modes and functions, and the fields that each kind has.
+//! The kinds of constraints, a row each: what may stand on a line, and what a deviation belongs to.
+
+/// What a constraint has one deviation for.
+#[derive(Clone, Copy, PartialEq, Eq, Debug)]
+pub enum Per {
+    /// Each team of T1.
+    Team,
+    /// Each pair of T1.
+    Pair,
+    /// Each slot of S.
+    Slot,
+    /// The constraint as a whole.
+    Whole,
+}
 
 /// A kind: its word and number, and what may stand on its line.
 pub struct Kind {
@@ -14,24 +27,52 @@ pub struct Kind {
     pub w: bool,
     /// The fewest teams of T1.
     pub fewest: usize,
+    /// Whether T1 and T2 may have one team each.
+    pub one_each: bool,
     pub t2: bool,
     pub s: bool,
+    /// What it has a deviation for in modes 1 to 3 and in modes 4 to 6.
+    pub per: [Per; 2],
 }
 
-const PLAIN: Kind =
-    Kind { word: "", number: 0, side: true, second: None, kmin: false, kmax: Some(0), w: false, fewest: 1, t2: false, s: true };
+impl Kind {
+    /// How many deviations a constraint of the kind has, for groups of these sizes.
+    pub fn deviations(&self, mode: u8, teams: usize, slots: usize) -> usize {
+        match self.per[usize::from(mode > 3)] {
+            Per::Team => teams,
+            Per::Pair => teams * teams.saturating_sub(1) / 2,
+            Per::Slot => slots,
+            Per::Whole => 1,
+        }
+    }
+}
+
+const PLAIN: Kind = Kind {
+    word: "",
+    number: 0,
+    side: true,
+    second: None,
+    kmin: false,
+    kmax: Some(0),
+    w: false,
+    fewest: 1,
+    one_each: true,
+    t2: false,
+    s: true,
+    per: [Per::Team; 2],
+};
 
 pub const KINDS: [Kind; 10] = [
     Kind { word: "CA1", number: 11, kmin: true, ..PLAIN },
-    Kind { word: "CA2", number: 12, kmin: true, t2: true, ..PLAIN },
+    Kind { word: "CA2", number: 12, kmin: true, t2: true, one_each: false, ..PLAIN },
     Kind { word: "CA3", number: 13, kmin: true, t2: true, s: false, w: true, ..PLAIN },
-    Kind { word: "CA4", number: 14, kmin: true, t2: true, second: Some("each"), fewest: 2, ..PLAIN },
-    Kind { word: "GA1", number: 21, kmin: true, t2: true, side: false, ..PLAIN },
+    Kind { word: "CA4", number: 14, kmin: true, t2: true, second: Some("each"), fewest: 2, per: [Per::Whole, Per::Slot], ..PLAIN },
+    Kind { word: "GA1", number: 21, kmin: true, t2: true, side: false, per: [Per::Whole; 2], ..PLAIN },
     Kind { word: "BR1", number: 31, second: Some("exactly"), ..PLAIN },
-    Kind { word: "BR2", number: 32, second: Some("exactly"), kmax: Some(1), fewest: 2, ..PLAIN },
+    Kind { word: "BR2", number: 32, second: Some("exactly"), kmax: Some(1), fewest: 2, per: [Per::Whole; 2], ..PLAIN },
     Kind { word: "FA1", number: 41, side: false, ..PLAIN },
-    Kind { word: "FA2", number: 42, fewest: 2, ..PLAIN },
-    Kind { word: "SE1", number: 51, side: false, kmax: None, w: true, fewest: 2, s: false, ..PLAIN },
+    Kind { word: "FA2", number: 42, fewest: 2, per: [Per::Pair; 2], ..PLAIN },
+    Kind { word: "SE1", number: 51, side: false, kmax: None, w: true, fewest: 2, s: false, per: [Per::Pair; 2], ..PLAIN },
 ];
 
 /// Modes 1 to 3.
