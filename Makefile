@@ -45,7 +45,7 @@ console: target/console
 target/console: examples/console.c include/season_checker.h $(LIBRARY)
 	$(CC) $(CFLAGS) -Iinclude examples/console.c $(LIBRARY) -o $@
 
-text:
+text: $(LIBRARY)
 	cargo build --release --offline --quiet --manifest-path host/Cargo.toml --package season-text
 	cp $(CARGO_TARGET_DIR)/release/season-text target/season-text
 

@@ -88,6 +88,17 @@ fn name_fault(fault: Fault, lines: &[(String, String)]) -> Fault {
     Fault::whole(format!("{}: {message}", name(fault.line)))
 }
 
+/// What keeps a constraint from the rules of its kind.
+pub(crate) fn constraint_faults(head: &[u8], body: &[u8], teams: usize, slots: usize) -> Vec<String> {
+    match constraint(head, body, teams, slots) {
+        Err(message) => vec![message],
+        Ok(line) => match encode(&format!("teams {teams}\nslots {slots}\n{line}\n")) {
+            Ok(_) => Vec::new(),
+            Err(faults) => faults.0.into_iter().map(|fault| fault.message).collect(),
+        },
+    }
+}
+
 /// A constraint's line. Fields that its kind does not have are written where they are not 0, and `encode` says so.
 fn constraint(head: &[u8], body: &[u8], teams: usize, slots: usize) -> Result<String, String> {
     let &[kind, mode, hard, function, weight, kmin, kmax, w] = head else {

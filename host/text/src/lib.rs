@@ -1,10 +1,15 @@
-//! The readable form of a season and its sheet (docs/TEXT.md): text to bytes and back, names.
+//! The readable form of a season and its sheet (docs/TEXT.md): text to bytes and back, names, reports in words.
 
 mod decode;
 mod encode;
+mod explain;
 mod faults;
 mod kinds;
+mod library;
 mod names;
+mod phrases;
+mod refusals;
+mod report;
 mod round_robin;
 mod season;
 mod words;
@@ -12,5 +17,7 @@ mod words;
 pub use decode::{decode, decode_named};
 pub use encode::{encode, Encoded};
 pub use faults::{Fault, Faults, SHOWN};
+pub use library::{Books, Move, Reply};
 pub use names::Names;
-pub use season::sizes;
+pub use report::{report, verdict, Opened, Refused};
+pub use season::{end, sizes};

@@ -1,16 +1,17 @@
-//! season-text: seasons as text and as bytes.
+//! season-text: seasons as text and as bytes, reports in words.
 
 mod files;
 
 use files::{content, print, Content, Outputs};
-use season_text::{decode_named, encode, sizes, Names, SHOWN};
+use season_text::{decode_named, encode, report, sizes, Faults, Names, Opened, SHOWN};
 use std::path::Path;
 use std::process::ExitCode;
 
 const USAGE: &str = "\
 usage: season-text encode TEXT [BYTES [SHEET]]       season and sheet in one file, or the sheet in a file of its own
        season-text decode BYTES [TEXT]               BYTES is a season followed by its sheet
-'-' stands for standard input or output; an output that is left out is standard output.
+       season-text report FILE                       verdict, totals, broken constraints and the games behind them
+FILE is text or bytes. '-' stands for standard input or output; an output that is left out is standard output.
 Names of teams, slots and constraints are kept beside the bytes, in BYTES.names.
 ";
 
@@ -30,6 +31,7 @@ fn main() -> ExitCode {
         ["encode", text, bytes, sheet] => encode_file(text, bytes, Some(sheet)),
         ["decode", bytes] => decode_file(bytes, "-"),
         ["decode", bytes, text] => decode_file(bytes, text),
+        ["report", file] => report_file(file),
         _ => {
             eprint!("{USAGE}");
             return ExitCode::from(2);
@@ -119,4 +121,28 @@ fn names_beside(file: &str, bytes: &[u8]) -> Result<Names, Failure> {
         return Err(one(format!("{beside}: this is no file of names")));
     };
     Names::read(&text, teams, slots, constraints).map_err(|faults| faults.in_file(&beside))
+}
+
+/// The season of a file of either form, opened by the library.
+fn open_file(file: &str) -> Result<Opened, Failure> {
+    let (bytes, names) = match content(file).map_err(one)? {
+        Content::Text(text) => {
+            let encoded = encode(&text).map_err(|faults| faults.in_file(file))?;
+            show_notes(file, &encoded.notes);
+            ([encoded.season, encoded.sheet].concat(), encoded.names)
+        }
+        Content::Bytes(bytes) => {
+            let names = names_beside(file, &bytes)?;
+            (bytes, names)
+        }
+    };
+    Opened::new(&bytes, names).map_err(|refused| {
+        let lines = refused.lines.into_iter().map(season_text::Fault::whole).collect();
+        [one(format!("{file}: refused {}", refused.number)), Faults(lines).in_file(file)].concat()
+    })
+}
+
+fn report_file(file: &str) -> Result<(), Failure> {
+    let opened = open_file(file)?;
+    print(report(file, &opened).as_bytes()).map_err(|error| one(format!("standard output: {error}")))
 }

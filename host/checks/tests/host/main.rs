@@ -1,6 +1,7 @@
 //! The proved library, linked as C, against an independent checker and against figures worked out by hand.
 
 mod every_call;
+mod explained;
 mod lists;
 mod named;
 mod refusals;
