@@ -1,6 +1,7 @@
 #!/bin/sh
 # The tests of what the proof does not cover: the compiled library behind its C interface against an independent checker, the header,
-# the installed files, the example, the text form. Needs make, cargo, cc; uses a C++ compiler, pkg-config and valgrind where there are any.
+# the installed files, the example, the text form, reports, pages and moves. Needs make, cargo, cc; uses a C++ compiler, pkg-config,
+# valgrind and Chromium where there are any.
 #
 #   host/test.sh          or: make host-test
 #   HOST_TIMES=10 ..      ten times as many random seasons
@@ -78,6 +79,7 @@ grep -q "wrong.txt:3: '9' is not a team" "$work/wrong.out"
 
 step Rust tests
 cargo test --offline --quiet --profile checked --manifest-path host/Cargo.toml --package checks --test host -- --nocapture
+cargo test --offline --quiet --profile checked --manifest-path host/Cargo.toml --package season-text
 
 step C, buffers at the ends of pages
 cargo build --offline --quiet --profile checked --manifest-path host/Cargo.toml --package checks

@@ -1,5 +1,6 @@
-//! The readable form of a season and its sheet (docs/TEXT.md): text to bytes and back, names, reports in words.
+//! The readable form of a season and its sheet (docs/TEXT.md): text to bytes and back, names, reports in words, a page.
 
+mod colours;
 mod decode;
 mod encode;
 mod explain;
@@ -7,6 +8,7 @@ mod faults;
 mod kinds;
 mod library;
 mod names;
+mod page;
 mod phrases;
 mod refusals;
 mod report;
@@ -19,5 +21,6 @@ pub use encode::{encode, Encoded};
 pub use faults::{Fault, Faults, SHOWN};
 pub use library::{Books, Move, Reply};
 pub use names::Names;
+pub use page::page;
 pub use report::{report, verdict, Opened, Refused};
 pub use season::{end, sizes};

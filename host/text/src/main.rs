@@ -1,9 +1,9 @@
-//! season-text: seasons as text and as bytes, reports in words.
+//! season-text: seasons as text and as bytes, reports in words, a page to look at.
 
 mod files;
 
 use files::{content, print, Content, Outputs};
-use season_text::{decode_named, encode, report, sizes, Faults, Names, Opened, SHOWN};
+use season_text::{decode_named, encode, page, report, sizes, Faults, Names, Opened, SHOWN};
 use std::path::Path;
 use std::process::ExitCode;
 
@@ -11,6 +11,7 @@ const USAGE: &str = "\
 usage: season-text encode TEXT [BYTES [SHEET]]       season and sheet in one file, or the sheet in a file of its own
        season-text decode BYTES [TEXT]               BYTES is a season followed by its sheet
        season-text report FILE                       verdict, totals, broken constraints and the games behind them
+       season-text page FILE OUT.html                the same with the timetable, to look at and to print
 FILE is text or bytes. '-' stands for standard input or output; an output that is left out is standard output.
 Names of teams, slots and constraints are kept beside the bytes, in BYTES.names.
 ";
@@ -32,6 +33,7 @@ fn main() -> ExitCode {
         ["decode", bytes] => decode_file(bytes, "-"),
         ["decode", bytes, text] => decode_file(bytes, text),
         ["report", file] => report_file(file),
+        ["page", file, out] => page_file(file, out),
         _ => {
             eprint!("{USAGE}");
             return ExitCode::from(2);
@@ -145,4 +147,18 @@ fn open_file(file: &str) -> Result<Opened, Failure> {
 fn report_file(file: &str) -> Result<(), Failure> {
     let opened = open_file(file)?;
     print(report(file, &opened).as_bytes()).map_err(|error| one(format!("standard output: {error}")))
+}
+
+/// The name of a season for the head of its page: the file's, without folder and ending.
+fn title(file: &str) -> String {
+    let stem = Path::new(file).file_stem().map_or(String::new(), |stem| stem.to_string_lossy().replace('-', " "));
+    match stem.trim() {
+        "" => "season".into(),
+        stem => stem.into(),
+    }
+}
+
+fn page_file(file: &str, out: &str) -> Result<(), Failure> {
+    let outputs = Outputs::new(&[file], vec![out.to_string()]).and_then(Outputs::spare_texts).map_err(one)?;
+    deliver(&outputs, || Ok(vec![Some(page(&title(file), &open_file(file)?).into_bytes())]))
 }

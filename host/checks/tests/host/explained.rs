@@ -1,7 +1,7 @@
 //! The games that a report shows behind a deviation add up to the library's figure, for every kind and mode.
 
 use checks::{example, example_season, seed, times, Check, Draft, Random, Shape};
-use season_text::{encode, report, Names, Opened};
+use season_text::{encode, page, report, Names, Opened};
 
 fn compare(name: &str, bytes: &[u8]) {
     let opened = Opened::new(bytes, Names::default()).unwrap_or_else(|refused| panic!("{name}: {refused:?}"));
@@ -31,6 +31,22 @@ fn random_seasons() {
         let draft = Draft::random(&mut random, if case % 50 == 0 { Shape::LARGEST } else { Shape::SMALL });
         let bytes = [draft.bytes(), draft.sheet.clone()].concat();
         compare(&format!("explained: HOST_SEED={seed}, season {case}"), &bytes);
+    }
+}
+
+/// Reports and pages of any season are made, also of one without games, constraints or broken ones.
+#[test]
+fn reports_and_pages() {
+    let seed = seed(62);
+    for case in 0..100 * times() {
+        let mut random = Random::new(seed, case);
+        let draft = Draft::random(&mut random, Shape::SMALL);
+        let bytes = [draft.bytes(), draft.sheet.clone()].concat();
+        let opened = Opened::new(&bytes, Names::default()).unwrap();
+        let broken = opened.books.tally()[..draft.constraints.len()].iter().filter(|&&penalty| penalty > 0).count();
+        let text = report("season", &opened);
+        assert_eq!(text.lines().filter(|line| line.starts_with("constraint ")).count(), broken, "{text}");
+        assert!(!page("season", &opened).contains("<script"));
     }
 }
 
