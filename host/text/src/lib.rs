@@ -1,4 +1,4 @@
-//! The readable form of a season and its sheet (docs/TEXT.md): text to bytes and back, names, reports in words, a page.
+//! The readable form of a season and its sheet (docs/TEXT.md): text to bytes and back, names, reports in words, a page, lists of moves.
 
 mod colours;
 mod decode;
@@ -10,6 +10,7 @@ mod library;
 mod names;
 mod page;
 mod phrases;
+mod play;
 mod refusals;
 mod report;
 mod round_robin;
@@ -22,5 +23,6 @@ pub use faults::{Fault, Faults, SHOWN};
 pub use library::{Books, Move, Reply};
 pub use names::Names;
 pub use page::page;
+pub use play::{differences, line, make, moves};
 pub use report::{report, verdict, Opened, Refused};
 pub use season::{end, sizes};

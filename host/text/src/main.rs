@@ -1,9 +1,9 @@
-//! season-text: seasons as text and as bytes, reports in words, a page to look at.
+//! season-text: seasons as text and as bytes, reports in words, a page to look at, lists of moves.
 
 mod files;
 
 use files::{content, print, Content, Outputs};
-use season_text::{decode_named, encode, page, report, sizes, Faults, Names, Opened, SHOWN};
+use season_text::{decode_named, encode, end, line, make, moves, page, report, sizes, verdict, Faults, Names, Opened, SHOWN};
 use std::path::Path;
 use std::process::ExitCode;
 
@@ -12,8 +12,10 @@ usage: season-text encode TEXT [BYTES [SHEET]]       season and sheet in one fil
        season-text decode BYTES [TEXT]               BYTES is a season followed by its sheet
        season-text report FILE                       verdict, totals, broken constraints and the games behind them
        season-text page FILE OUT.html                the same with the timetable, to look at and to print
+       season-text play FILE MOVES [--check] [OUT..] makes the moves of a list; --check opens afresh after each and compares
 FILE is text or bytes. '-' stands for standard input or output; an output that is left out is standard output.
-Names of teams, slots and constraints are kept beside the bytes, in BYTES.names.
+OUT ends in .txt, .bin or .html: the season with the last sheet as text, bytes or page. Names of teams, slots and
+constraints are kept beside the bytes, in BYTES.names.
 ";
 
 /// The lines that say why a command failed.
@@ -34,6 +36,7 @@ fn main() -> ExitCode {
         ["decode", bytes, text] => decode_file(bytes, text),
         ["report", file] => report_file(file),
         ["page", file, out] => page_file(file, out),
+        ["play", file, list, rest @ ..] => play_file(file, list, rest),
         _ => {
             eprint!("{USAGE}");
             return ExitCode::from(2);
@@ -161,4 +164,93 @@ fn title(file: &str) -> String {
 fn page_file(file: &str, out: &str) -> Result<(), Failure> {
     let outputs = Outputs::new(&[file], vec![out.to_string()]).and_then(Outputs::spare_texts).map_err(one)?;
     deliver(&outputs, || Ok(vec![Some(page(&title(file), &open_file(file)?).into_bytes())]))
+}
+
+/// What a file of the last sheet holds, by its ending.
+#[derive(Clone, Copy)]
+enum Form {
+    Text,
+    Bytes,
+    Page,
+}
+
+fn form(name: &str) -> Option<Form> {
+    match Path::new(name).extension()?.to_str()? {
+        "txt" => Some(Form::Text),
+        "bin" => Some(Form::Bytes),
+        "html" => Some(Form::Page),
+        _ => None,
+    }
+}
+
+fn play_file(file: &str, list: &str, rest: &[&str]) -> Result<(), Failure> {
+    let check = rest.contains(&"--check");
+    let (mut targets, mut forms) = (Vec::new(), Vec::new());
+    for &out in rest.iter().filter(|word| **word != "--check") {
+        let form = form(out).ok_or_else(|| one(format!("{out}: an output of play ends in .txt, .bin or .html")))?;
+        targets.push(out.to_string());
+        forms.push(Some(form));
+        if let Form::Bytes = form {
+            targets.push(names_file(out));
+            forms.push(None);
+        }
+    }
+    if file == "-" && list == "-" {
+        return Err(one("the season and the moves cannot both come from standard input".into()));
+    }
+    let outputs = Outputs::new(&[file, list], targets).map_err(one)?;
+    deliver(&outputs, || {
+        let mut opened = open_file(file)?;
+        let Content::Text(text) = content(list).map_err(one)? else {
+            return Err(one(format!("{list}: this is no list of moves")));
+        };
+        let steps = moves(&text).map_err(|faults| faults.in_file(list))?;
+        make_moves(&mut opened, &steps, check)?;
+        forms.iter().map(|form| last_sheet(&title(file), &opened, *form)).collect()
+    })
+}
+
+/// Makes the moves and prints a line for each.
+fn make_moves(opened: &mut Opened, steps: &[season_text::Move], check: bool) -> Result<(), Failure> {
+    let say = |text: String| print(format!("{text}\n").as_bytes()).map_err(|error| one(format!("standard output: {error}")));
+    let (books, reply) = (&opened.books, opened.reply);
+    say(format!("open: {}, infeasibility {}, objective {}", verdict(reply.number), books.infeasibility(), books.objective()))?;
+    let mut refused = 0;
+    for (at, &step) in steps.iter().enumerate() {
+        let before = opened.books.clone();
+        let reply = make(opened, step);
+        refused += usize::from(reply.declined);
+        say(line(opened, before.sheet(), step, reply))?;
+        if check {
+            let found = season_text::differences(opened, &before, reply);
+            if !found.is_empty() {
+                let faults = Faults(found.into_iter().map(season_text::Fault::whole).collect());
+                return Err([one(format!("move {} differs from a fresh opening:", at + 1)), faults.in_file("difference")].concat());
+            }
+        }
+    }
+    say(format!("{} moves: {} accepted, {refused} refused", steps.len(), steps.len() - refused))?;
+    if check {
+        let (ledger, tally) = (opened.books.ledger().len(), opened.books.tally().len());
+        say(format!(
+            "checked: after each move the verdict, both changes, the {ledger} words of the ledger and the {tally} of the tally are \
+             those of a fresh opening"
+        ))?;
+    }
+    Ok(())
+}
+
+/// The contents of an output of play; without a form, the names beside the bytes.
+fn last_sheet(title: &str, opened: &Opened, form: Option<Form>) -> Result<Option<Vec<u8>>, Failure> {
+    let bytes = [opened.books.season(), opened.books.sheet()].concat();
+    debug_assert_eq!(end(&bytes), opened.books.season().len());
+    Ok(match form {
+        Some(Form::Text) => {
+            let text = decode_named(&bytes, &opened.names).map_err(|faults| faults.in_file("the last sheet"))?;
+            Some(text.into_bytes())
+        }
+        Some(Form::Bytes) => Some(bytes),
+        Some(Form::Page) => Some(page(title, opened).into_bytes()),
+        None => (!opened.names.is_empty()).then(|| opened.names.file().into_bytes()),
+    })
 }

@@ -1,7 +1,8 @@
-//! What a refused opening is about. The number is the library's; here it is said which game, constraint, buffer or team is at
+//! What a refused opening or move is about. The number is the library's; here it is said which game, constraint, buffer or team is at
 //! fault.
 
 use crate::decode::constraint_faults;
+use crate::library::Move;
 use crate::names::Names;
 use crate::season::{end, heads_and_bodies, sizes, Season, CONSTRAINTS, GAMES, MEETINGS, SLOTS, TEAMS};
 use std::collections::HashMap;
@@ -87,6 +88,60 @@ fn of_sheet(season: &Season, sheet: &[u8], names: &Names) -> Vec<String> {
                 found.push(format!("{team} has two games in {slot}: {} and {}", name(earlier), name(game)));
             }
             busy.insert((team, slot), game);
+        }
+    }
+    found
+}
+
+/// What is at fault in a move that the library refuses with this number on the given sheet.
+pub fn of_move(season: &Season, sheet: &[u8], names: &Names, step: Move, number: u8) -> String {
+    let games = season.games.len() as u64;
+    let named = |game: u64| format!("game {game} ({})", names.fixture(season.games[game as usize]));
+    let of_step = match step {
+        Move::Set { game, .. } => vec![game],
+        Move::Exchange { game, other } => vec![game, other],
+    };
+    match (number, step) {
+        (9, _) => {
+            let missing: Vec<String> = of_step.iter().filter(|&&game| game >= games).map(u64::to_string).collect();
+            let range = if games == 0 { "there are no games".into() } else { format!("games are 0 to {}", games - 1) };
+            format!("there is no game {}; {range}", missing.join(" and no game "))
+        }
+        (10, Move::Set { slot, .. }) => format!("there is no slot {slot}; slots are 1 to {}", season.slots),
+        (11, Move::Exchange { game, .. }) => format!("both games are {}", named(game)),
+        (12, _) => {
+            let unplaced: Vec<String> = of_step.into_iter().filter(|&game| sheet[game as usize] == 0).map(named).collect();
+            format!("{} {} unplaced", unplaced.join(" and "), if unplaced.len() == 1 { "is" } else { "are" })
+        }
+        (13, _) => clashes(season, sheet, names, step).join("; "),
+        _ => String::new(),
+    }
+}
+
+/// Which teams of the moved games already play in their new slots.
+fn clashes(season: &Season, sheet: &[u8], names: &Names, step: Move) -> Vec<String> {
+    let slot_of = |game: u64| u64::from(sheet[game as usize]);
+    let moved = match step {
+        Move::Set { game, slot } => vec![(game, slot)],
+        Move::Exchange { game, other } => vec![(game, slot_of(other)), (other, slot_of(game))],
+    };
+    let mut found = Vec::new();
+    for &(game, slot) in &moved {
+        let (home, away) = season.games[game as usize];
+        for (other, &(i, j)) in season.games.iter().enumerate() {
+            let stays = moved.iter().all(|&(game, _)| game != other as u64);
+            if !stays || slot == 0 || slot_of(other as u64) != slot {
+                continue;
+            }
+            // One sentence a game, also where it is between the same two teams.
+            if let Some(team) = [home, away].into_iter().find(|&team| team == i || team == j) {
+                let opponent = names.team(if team == i { j } else { i });
+                found.push(format!(
+                    "{} already plays {opponent} in {} (game {other})",
+                    names.team(team),
+                    names.slot(slot as usize)
+                ));
+            }
         }
     }
     found

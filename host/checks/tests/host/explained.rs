@@ -1,7 +1,8 @@
 //! The games that a report shows behind a deviation add up to the library's figure, for every kind and mode.
 
-use checks::{example, example_season, seed, times, Check, Draft, Random, Shape};
-use season_text::{encode, page, report, Names, Opened};
+use checks::{example, example_season, seed, times, Check, Draft, Mover, Random, Shape};
+use reference::Call;
+use season_text::{encode, line, make, page, report, Move, Names, Opened};
 
 fn compare(name: &str, bytes: &[u8]) {
     let opened = Opened::new(bytes, Names::default()).unwrap_or_else(|refused| panic!("{name}: {refused:?}"));
@@ -78,6 +79,35 @@ fn damaged_bytes() {
         }
     }
     println!("damaged bytes, explained: {numbers:?}");
+}
+
+/// Moves: the library's reply, and for a refused one what is at fault.
+#[test]
+fn moves() {
+    let seed = seed(64);
+    for case in 0..100 * times() {
+        let mut random = Random::new(seed, case);
+        let draft = Draft::random(&mut random, Shape::SMALL);
+        let bytes = [draft.bytes(), draft.sheet.clone()].concat();
+        let mut opened = Opened::new(&bytes, Names::default()).unwrap();
+        let season = reference::read(&draft.bytes()).unwrap();
+        let mover = Mover::new(&mut random, &season);
+        for _ in 0..60 {
+            let step = match mover.call(&mut random, &season, opened.books.sheet()) {
+                Call::Set { game, slot } => Move::Set { game, slot },
+                Call::Exchange { game, other } => Move::Exchange { game, other },
+                Call::Open => continue,
+            };
+            let before = opened.books.clone();
+            let reply = make(&mut opened, step);
+            let said = line(&opened, before.sheet(), step, reply);
+            if reply.declined {
+                let why = said.split_once(&format!(": refused {}: ", reply.number)).expect(&said).1;
+                assert!(why.contains("game") || why.contains("slot"), "HOST_SEED={seed}, season {case}: {said}");
+            }
+            assert!(season_text::differences(&opened, &before, reply).is_empty(), "HOST_SEED={seed}, season {case}: {said}");
+        }
+    }
 }
 
 /// Damaged text is told, or is a season that the library opens.
