@@ -39,6 +39,25 @@ if has "${CXX:-c++}"; then
     done
 fi
 
+step explained refusals
+exact='-Wall -Wextra -Wpedantic -Wconversion -Wsign-conversion -Werror'
+for compiler in "$CC" clang; do
+    has "$compiler" || continue
+    for standard in c99 c11 c17; do
+        $compiler -std=$standard $exact -Iinclude host/c/explain.c target/libseason_checker.a -o "$work/explain"
+    done
+done
+for compiler in "${CXX:-c++}" clang++; do
+    has "$compiler" || continue
+    for standard in c++11 c++20; do
+        $compiler -std=$standard $exact -Iinclude -x c++ host/c/explain.c -x none target/libseason_checker.a -o "$work/explain-c++"
+        "$work/explain-c++" examples/season-a.bin > /dev/null
+    done
+done
+target/season-text encode examples/named8.txt "$work/named8.bin"
+target/season-text encode examples/league18.txt "$work/league18.bin"
+"$work/explain" examples/season-a.bin "$work/named8.bin" "$work/league18.bin"
+
 step example
 target/console < examples/season-a.moves > "$work/console.out"
 cmp examples/season-a.console "$work/console.out"
@@ -90,11 +109,12 @@ $CC -std=c99 -O1 -g -Wall -Wextra -Wpedantic -Werror -Iinclude host/c/replay.c t
 
 step C under memory checkers
 if echo 'int main(void) { return 0; }' | $CC -fsanitize=address,undefined -x c - -o "$work/sanitized" 2> /dev/null; then
-    for part in host/c/replay.c examples/console.c; do
+    for part in host/c/replay.c host/c/explain.c examples/console.c; do
         $CC -std=c99 -O1 -g -fsanitize=address,undefined -fno-sanitize-recover=all -Iinclude $part target/libseason_checker.a \
             -o "$work/sanitized"
         case $part in
         *replay.c) "$work/sanitized" "$work/cases" end && "$work/sanitized" "$work/cases" heap ;;
+        *explain.c) "$work/sanitized" examples/season-a.bin "$work/named8.bin" ;;
         *) "$work/sanitized" < examples/season-a.moves | cmp examples/season-a.console - ;;
         esac
     done
