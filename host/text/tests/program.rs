@@ -429,3 +429,43 @@ fn moves() {
     assert!(folder.bad("play season-a.txt season-a.moves season-a.txt").contains("is read by the command"));
     assert!(folder.bad("play - -").contains("cannot both come from standard input"));
 }
+
+/// docs/TEXT.md shows what the commands print.
+#[test]
+fn the_page_on_the_text_form_is_right() {
+    let folder = Folder::new("docs");
+    folder.sample("named8.txt").sample("named8.moves").sample("season-a.txt");
+    let docs = fs::read_to_string(examples().join("../docs/TEXT.md")).unwrap();
+    let block = |first: &str| -> Vec<String> {
+        let rest = docs.split_once(&format!("    $ season-text {first}")).unwrap_or_else(|| panic!("docs/TEXT.md: {first}")).1;
+        let lines = rest.lines().skip(1).take_while(|line| line.is_empty() || line.starts_with("    "));
+        lines.map(str::trim).filter(|line| !line.is_empty() && *line != "..").map(str::to_string).collect()
+    };
+    let printed = |words: &str| -> Vec<String> { folder.good(words).lines().map(|line| line.trim().to_string()).collect() };
+    let report = printed("report named8.txt");
+    for line in block("report examples/named8.txt") {
+        assert!(report.contains(&line.replace("examples/", "")), "docs/TEXT.md: {line}");
+    }
+    assert_eq!(block("play examples/named8.txt"), printed("play named8.txt named8.moves --check"));
+    let season_a = String::from_utf8(folder.get("season-a.txt")).unwrap();
+    for line in season_a.lines().filter(|line| !line.starts_with('#')) {
+        assert!(docs.contains(line), "docs/TEXT.md: {line}");
+    }
+    // The sentences of the table are those of the samples, without the dates.
+    let dates = |line: &str| -> String {
+        line.split(" (")
+            .enumerate()
+            .map(|(at, part)| if at == 0 { part } else { part.split_once(')').map_or(part, |(_, rest)| rest) })
+            .collect()
+    };
+    let plain: Vec<String> = report.iter().map(|line| dates(line)).collect();
+    let sentences = docs.split_once("| a deviation |").unwrap().1.lines().skip(2).take_while(|line| line.starts_with('|'));
+    for sentence in sentences.filter(|line| !line.contains("team 1")) {
+        let sentence = sentence.split('`').nth(1).unwrap();
+        let parts: Vec<&str> = sentence.split("..").collect();
+        assert!(
+            plain.iter().any(|line| parts.iter().all(|part| line.contains(part.trim_end_matches(';')))),
+            "docs/TEXT.md: {sentence}"
+        );
+    }
+}
