@@ -11,6 +11,9 @@ use std::fmt::Write;
 /// The most slots that stand side by side; a longer season is cut into blocks of equal width, which fit a sheet of paper.
 const WIDEST: usize = 22;
 
+/// Two blocks of so many teams share a page of paper; one of more teams fills it, in larger letters.
+const MOST_SHARING: usize = 20;
+
 /// The widest cell, in the height of the letters.
 const CELL_WIDTH: usize = 6;
 
@@ -123,7 +126,8 @@ impl Page<'_> {
     fn block(&self, first: usize, last: usize, width: usize, captioned: bool) -> String {
         // Names need room; few slots need no wide cells.
         let (named, room) = if self.opened.names.teams.is_empty() { ("", 6) } else { (" named", 12) };
-        let mut html = format!("<table style=\"max-width:{}em\">\n", room + CELL_WIDTH * width);
+        let tall = if self.opened.season.teams > MOST_SHARING { " class=\"tall\"" } else { "" };
+        let mut html = format!("<table{tall} style=\"max-width:{}em\">\n", room + CELL_WIDTH * width);
         if captioned {
             let _ = writeln!(html, "<caption>Slots {first} to {last}</caption>");
         }
