@@ -63,7 +63,7 @@ $(SHARED): host/c/helpers.c include/season_checker.h $(LIBRARY)
 install: all
 	sed -e 's|@PREFIX@|$(subst &,\&,$(PREFIX))|' -e 's|@VERSION@|$(VERSION)|' season_checker.pc.in > target/season_checker.pc
 	$(INSTALL) -d "$(INCLUDE)" "$(LIB)/pkgconfig"
-	$(INSTALL) -m 644 include/season_checker.h "$(INCLUDE)"
+	$(INSTALL) -m 644 include/season_checker.h include/season_explain.h "$(INCLUDE)"
 	$(INSTALL) -m 644 $(LIBRARY) "$(LIB)"
 	$(INSTALL) -m 755 $(SHARED) "$(LIB)/libseason_checker.so.$(VERSION)"
 	ln -sf libseason_checker.so.$(VERSION) "$(LIB)/libseason_checker.so.$(MAJOR)"
@@ -71,7 +71,7 @@ install: all
 	$(INSTALL) -m 644 target/season_checker.pc "$(LIB)/pkgconfig"
 
 uninstall:
-	rm -f "$(INCLUDE)/season_checker.h" "$(LIB)/libseason_checker.a" "$(LIB)/pkgconfig/season_checker.pc"
+	rm -f "$(INCLUDE)/season_checker.h" "$(INCLUDE)/season_explain.h" "$(LIB)/libseason_checker.a" "$(LIB)/pkgconfig/season_checker.pc"
 	rm -f "$(LIB)/libseason_checker.so" "$(LIB)/libseason_checker.so.$(MAJOR)" "$(LIB)/libseason_checker.so.$(VERSION)"
 
 console: target/console
@@ -79,7 +79,7 @@ console: target/console
 target/console: examples/console.c include/season_checker.h $(LIBRARY)
 	$(CC) $(CFLAGS) -Iinclude examples/console.c $(LIBRARY) -o $@
 
-text:
+text: $(LIBRARY)
 	@mkdir -p target
 	CARGO_TARGET_DIR=target/cargo cargo build --release --offline --quiet --manifest-path host/Cargo.toml --package season-text
 	@cmp -s target/cargo/release/season-text target/season-text || cp target/cargo/release/season-text target/season-text

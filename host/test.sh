@@ -1,7 +1,7 @@
 #!/bin/sh
 # The tests of what the proof does not cover: the compiled library behind its C interface against an independent checker, the header and
-# its helpers, the installed files, the shared library, the examples, the commands, the documents, the text form. Needs make, cargo, cc; uses
-# C++ compilers, clang, pkg-config, Python and valgrind where there are any.
+# its helpers, the installed files, the shared library, the examples, the commands, the documents, the text form, reports, pages and moves.
+# Needs make, cargo, cc; uses C++ compilers, clang, pkg-config, Python, valgrind and Chromium where there are any.
 #
 #   host/test.sh          or: make host-test
 #   HOST_TIMES=10 ..      ten times as many random seasons
@@ -42,6 +42,25 @@ for compiler in "${CXX:-c++}" clang++; do
         "$work/header"
     done
 done
+
+step explained refusals
+exact='-Wall -Wextra -Wpedantic -Wconversion -Wsign-conversion -Werror'
+for compiler in "$CC" clang; do
+    has "$compiler" || continue
+    for standard in c99 c11 c17; do
+        $compiler -std=$standard $exact -Iinclude host/c/explain.c target/libseason_checker.a -o "$work/explain"
+    done
+done
+for compiler in "${CXX:-c++}" clang++; do
+    has "$compiler" || continue
+    for standard in c++11 c++20; do
+        $compiler -std=$standard $exact -Iinclude -x c++ host/c/explain.c -x none target/libseason_checker.a -o "$work/explain-c++"
+        "$work/explain-c++" examples/season-a.bin > /dev/null
+    done
+done
+target/season-text encode examples/named8.txt "$work/named8.bin"
+target/season-text encode examples/league18.txt "$work/league18.bin"
+"$work/explain" examples/season-a.bin "$work/named8.bin" "$work/league18.bin"
 
 step example
 target/console < examples/season-a.moves > "$work/console.out"
@@ -107,6 +126,7 @@ grep -q "wrong.txt:3: '9' is not a team" "$work/wrong.out"
 
 step Rust tests
 cargo test --offline --quiet --profile checked --manifest-path host/Cargo.toml --package checks --test host -- --nocapture
+cargo test --offline --quiet --profile checked --manifest-path host/Cargo.toml --package season-text
 
 step C, buffers at the ends of pages
 cargo build --offline --quiet --profile checked --manifest-path host/Cargo.toml --package checks
@@ -117,11 +137,12 @@ $CC -std=c99 -O1 -g -Wall -Wextra -Wpedantic -Werror -Iinclude host/c/replay.c t
 
 step C under memory checkers
 if echo 'int main(void) { return 0; }' | $CC -fsanitize=address,undefined -x c - -o "$work/sanitized" 2> /dev/null; then
-    for part in host/c/replay.c examples/console.c; do
+    for part in host/c/replay.c host/c/explain.c examples/console.c; do
         $CC -std=c99 -O1 -g -fsanitize=address,undefined -fno-sanitize-recover=all -Iinclude $part target/libseason_checker.a \
             -o "$work/sanitized"
         case $part in
         *replay.c) "$work/sanitized" "$work/cases" end && "$work/sanitized" "$work/cases" heap ;;
+        *explain.c) "$work/sanitized" examples/season-a.bin "$work/named8.bin" ;;
         *) "$work/sanitized" < examples/season-a.moves | cmp examples/season-a.console - ;;
         esac
     done

@@ -1,21 +1,29 @@
 //! Bytes to text.
 
 use crate::encode::encode;
+use crate::faults::{Fault, Faults};
 use crate::kinds::{kind_by_number, FUNCTIONS, GROUPS, SIDES};
+use crate::names::Names;
+use crate::season::sizes;
+use crate::words::quote;
 
-/// The text of a season that is followed by its sheet, or what keeps the checker from opening it.
-pub fn decode(bytes: &[u8]) -> Result<String, String> {
-    let &[teams, slots, g, gg, c, cc, ..] = bytes else {
-        return Err(format!("a season has at least 6 bytes, and there are {}", bytes.len()));
+/// The text of a season that is followed by its sheet, or all that keeps the checker from opening it.
+pub fn decode(bytes: &[u8]) -> Result<String, Faults> {
+    decode_named(bytes, &Names::default())
+}
+
+/// The same with the names that belong to the season.
+pub fn decode_named(bytes: &[u8], names: &Names) -> Result<String, Faults> {
+    let Some([teams, slots, games, constraints]) = sizes(bytes) else {
+        return Err(Fault::whole(format!("a season has at least 6 bytes, and there are {}", bytes.len())).into());
     };
-    let games = usize::from(u16::from_le_bytes([g, gg]));
-    let constraints = usize::from(u16::from_le_bytes([c, cc]));
     let length = 6 + 3 * games + 24 * constraints;
     if bytes.len() != length {
-        return Err(format!(
+        return Err(Fault::whole(format!(
             "with {games} games and {constraints} constraints, season and sheet have {length} bytes, and there are {}",
             bytes.len()
-        ));
+        ))
+        .into());
     }
     let (home, rest) = bytes[6..].split_at(games);
     let (away, rest) = rest.split_at(games);
@@ -27,28 +35,67 @@ pub fn decode(bytes: &[u8]) -> Result<String, String> {
         (format!("# {teams} teams, {slots} slots, {games} games, {constraints} constraints"), String::new()),
         (format!("teams {teams}"), "sizes".into()),
         (format!("slots {slots}"), "sizes".into()),
-        ("\n# game HOME AWAY SLOT  # number".into(), String::new()),
     ];
+    lines.push((String::new(), String::new()));
+    let named = names.team_and_slot_lines();
+    if !named.is_empty() {
+        lines.extend(named.lines().map(|line| (line.to_string(), "names".to_string())));
+        lines.push((String::new(), String::new()));
+    }
+    lines.push(("# game HOME AWAY SLOT  # number".into(), String::new()));
     for at in 0..games {
         let slot = if sheet[at] == 0 { "-".into() } else { sheet[at].to_string() };
         lines.push((format!("game {} {} {slot}  # {at}", home[at], away[at]), format!("game {at}")));
     }
-    lines.push(("\n# KIND SIDE HARDNESS FUNCTION FIELDS  # number".into(), String::new()));
+    lines.push((String::new(), String::new()));
+    lines.push(("# KIND SIDE HARDNESS FUNCTION FIELDS  # number".into(), String::new()));
+    let mut faults = Faults::default();
     for (at, (head, body)) in heads.chunks(8).zip(bodies.chunks(16)).enumerate() {
-        let name = format!("constraint {at}");
-        let line = constraint(head, body, teams.into(), slots.into()).map_err(|fault| format!("{name}: {fault}"))?;
-        lines.push((format!("{line}  # {at}"), name));
+        let name = names.constraints.get(&at).map_or(String::new(), |name| format!(" {}", quote(name)));
+        // The line of a constraint that cannot be written stays empty; the others are looked at all the same.
+        let line = constraint(head, body, teams, slots).unwrap_or_else(|message| {
+            faults.0.push(Fault::whole(format!("constraint {at}: {message}")));
+            String::new()
+        });
+        lines.push((if line.is_empty() { line } else { format!("{line}{name}  # {at}") }, format!("constraint {at}")));
     }
 
     let text: String = lines.iter().map(|(line, _)| format!("{line}\n")).collect();
     match encode(&text) {
-        Ok(encoded) if [&encoded.season[..], &encoded.sheet].concat() == bytes => Ok(text),
-        Ok(_) => Err("the bytes have no text form".into()),
-        Err(fault) => {
-            // Two of the lines begin with an empty one.
-            let named = lines.iter().flat_map(|(line, name)| line.lines().map(move |_| name)).nth(fault.line.max(1) - 1);
-            Err(format!("{}: {}", named.map_or("", |name| name), fault.message))
+        Err(found) => faults.0.extend(found.0.into_iter().map(|fault| name_fault(fault, &lines))),
+        Ok(encoded) if faults.0.is_empty() && [&encoded.season[..], &encoded.sheet].concat() != bytes => {
+            faults.0.push(Fault::whole("the bytes have no text form"));
         }
+        Ok(_) => (),
+    }
+    if faults.0.is_empty() {
+        Ok(text)
+    } else {
+        Err(faults)
+    }
+}
+
+/// A fault of a line, told of what the line stands for.
+fn name_fault(fault: Fault, lines: &[(String, String)]) -> Fault {
+    let name = |line: usize| lines[line.max(1) - 1].1.as_str();
+    let message = match fault.message.rsplit_once(" (line ") {
+        Some((message, line)) => {
+            let line: usize = line.trim_end_matches(')').parse().unwrap_or(1);
+            format!("{message} ({})", name(line))
+        }
+        None => fault.message,
+    };
+    Fault::whole(format!("{}: {message}", name(fault.line)))
+}
+
+/// What keeps a constraint from the rules of its kind.
+pub(crate) fn constraint_faults(head: &[u8], body: &[u8], teams: usize, slots: usize) -> Vec<String> {
+    match constraint(head, body, teams, slots) {
+        Err(message) => vec![message],
+        Ok(line) => match encode(&format!("teams {teams}\nslots {slots}\n{line}\n")) {
+            Ok(_) => Vec::new(),
+            Err(faults) => faults.0.into_iter().map(|fault| fault.message).collect(),
+        },
     }
 }
 

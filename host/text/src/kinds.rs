@@ -1,9 +1,27 @@
-//! The words of the text form: kinds, modes and functions, and the fields that each kind has.
+//! The kinds of constraints, a row each: what may stand on a line, what a deviation belongs to, and how it is put into words.
 
-/// A kind: its word and number, and what may stand on its line.
+use crate::explain::{self, Findings, Subject, View};
+use crate::season::Constraint;
+
+/// What a constraint has one deviation for.
+#[derive(Clone, Copy, PartialEq, Eq, Debug)]
+pub enum Per {
+    /// Each team of T1.
+    Team,
+    /// Each pair of T1.
+    Pair,
+    /// Each slot of S.
+    Slot,
+    /// The constraint as a whole.
+    Whole,
+}
+
+/// A kind: its word and number, what may stand on its line, and its sentences.
 pub struct Kind {
     pub word: &'static str,
     pub number: u8,
+    /// What it is about, in a few words.
+    pub title: &'static str,
     /// Whether a side (home, away, any) is named. Without one the mode is 1.
     pub side: bool,
     /// The word for modes 4 to 6, if the kind has them.
@@ -14,24 +32,142 @@ pub struct Kind {
     pub w: bool,
     /// The fewest teams of T1.
     pub fewest: usize,
+    /// Whether T1 and T2 may have one team each.
+    pub one_each: bool,
     pub t2: bool,
     pub s: bool,
+    /// What it has a deviation for in modes 1 to 3 and in modes 4 to 6.
+    pub per: [Per; 2],
+    /// What a constraint of the kind asks, as a sentence.
+    pub asks: fn(&View, &Constraint) -> String,
+    /// What stands behind one of its deviations.
+    pub finds: fn(&View, &Constraint, Subject) -> Findings,
 }
 
-const PLAIN: Kind =
-    Kind { word: "", number: 0, side: true, second: None, kmin: false, kmax: Some(0), w: false, fewest: 1, t2: false, s: true };
+impl Kind {
+    /// How many deviations a constraint of the kind has, for groups of these sizes.
+    pub fn deviations(&self, mode: u8, teams: usize, slots: usize) -> usize {
+        match self.per[usize::from(mode > 3)] {
+            Per::Team => teams,
+            Per::Pair => teams * teams.saturating_sub(1) / 2,
+            Per::Slot => slots,
+            Per::Whole => 1,
+        }
+    }
+}
+
+const PLAIN: Kind = Kind {
+    word: "",
+    number: 0,
+    title: "",
+    side: true,
+    second: None,
+    kmin: false,
+    kmax: Some(0),
+    w: false,
+    fewest: 1,
+    one_each: true,
+    t2: false,
+    s: true,
+    per: [Per::Team; 2],
+    asks: explain::asks_games,
+    finds: explain::finds_games,
+};
 
 pub const KINDS: [Kind; 10] = [
-    Kind { word: "CA1", number: 11, kmin: true, ..PLAIN },
-    Kind { word: "CA2", number: 12, kmin: true, t2: true, ..PLAIN },
-    Kind { word: "CA3", number: 13, kmin: true, t2: true, s: false, w: true, ..PLAIN },
-    Kind { word: "CA4", number: 14, kmin: true, t2: true, second: Some("each"), fewest: 2, ..PLAIN },
-    Kind { word: "GA1", number: 21, kmin: true, t2: true, side: false, ..PLAIN },
-    Kind { word: "BR1", number: 31, second: Some("exactly"), ..PLAIN },
-    Kind { word: "BR2", number: 32, second: Some("exactly"), kmax: Some(1), fewest: 2, ..PLAIN },
-    Kind { word: "FA1", number: 41, side: false, ..PLAIN },
-    Kind { word: "FA2", number: 42, fewest: 2, ..PLAIN },
-    Kind { word: "SE1", number: 51, side: false, kmax: None, w: true, fewest: 2, s: false, ..PLAIN },
+    Kind { word: "CA1", number: 11, title: "games of a team", kmin: true, ..PLAIN },
+    Kind { word: "CA2", number: 12, title: "games of a team against a group", kmin: true, t2: true, one_each: false, ..PLAIN },
+    Kind {
+        word: "CA3",
+        number: 13,
+        title: "games of a team in successive slots",
+        kmin: true,
+        t2: true,
+        s: false,
+        w: true,
+        asks: explain::asks_runs,
+        finds: explain::finds_runs,
+        ..PLAIN
+    },
+    Kind {
+        word: "CA4",
+        number: 14,
+        title: "games between two groups",
+        kmin: true,
+        t2: true,
+        second: Some("each"),
+        fewest: 2,
+        per: [Per::Whole, Per::Slot],
+        asks: explain::asks_between,
+        finds: explain::finds_between,
+        ..PLAIN
+    },
+    Kind {
+        word: "GA1",
+        number: 21,
+        title: "fixtures in given slots",
+        kmin: true,
+        t2: true,
+        side: false,
+        per: [Per::Whole; 2],
+        asks: explain::asks_between,
+        finds: explain::finds_between,
+        ..PLAIN
+    },
+    Kind {
+        word: "BR1",
+        number: 31,
+        title: "breaks of a team",
+        second: Some("exactly"),
+        asks: explain::asks_breaks,
+        finds: explain::finds_breaks,
+        ..PLAIN
+    },
+    Kind {
+        word: "BR2",
+        number: 32,
+        title: "breaks of all teams together",
+        second: Some("exactly"),
+        kmax: Some(1),
+        fewest: 2,
+        per: [Per::Whole; 2],
+        asks: explain::asks_breaks,
+        finds: explain::finds_breaks,
+        ..PLAIN
+    },
+    Kind {
+        word: "FA1",
+        number: 41,
+        title: "home and away games of a team in balance",
+        side: false,
+        asks: explain::asks_balance,
+        finds: explain::finds_balance,
+        ..PLAIN
+    },
+    Kind {
+        word: "FA2",
+        number: 42,
+        title: "games of two teams in balance",
+        fewest: 2,
+        per: [Per::Pair; 2],
+        asks: explain::asks_difference,
+        finds: explain::finds_difference,
+        ..PLAIN
+    },
+    Kind {
+        word: "SE1",
+        number: 51,
+        title: "slots between two games of a pair",
+        side: false,
+        kmax: None,
+        w: true,
+        fewest: 2,
+        s: false,
+        per: [Per::Pair; 2],
+        asks: explain::asks_separation,
+        finds: explain::finds_separation,
+        ..PLAIN
+    },
 ];
 
 /// Modes 1 to 3.
@@ -39,6 +175,9 @@ pub const SIDES: [&str; 3] = ["home", "away", "any"];
 
 /// Functions 1 to 5.
 pub const FUNCTIONS: [&str; 5] = ["sum", "sq-sum", "sum-sq", "min", "max"];
+
+/// Functions 1 to 5 in words.
+pub const FUNCTION_WORDS: [&str; 5] = ["the sum", "the square of the sum", "the sum of the squares", "the smallest", "the largest"];
 
 /// The groups, their place in the body of a constraint and their length.
 pub const GROUPS: [(&str, usize, usize); 3] = [("T1", 0, 4), ("T2", 4, 4), ("S", 8, 8)];

@@ -2,6 +2,7 @@
 
 mod documents;
 mod every_call;
+mod explained;
 mod helpers;
 mod kinds;
 mod lists;

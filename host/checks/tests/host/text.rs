@@ -47,7 +47,7 @@ fn damaged_seasons_are_told() {
                 good += 1;
             }
             Err(why) => {
-                assert!(reply.declined && !why.is_empty(), "HOST_SEED={seed}, season {case}: {why}");
+                assert!(reply.declined && !why.0.is_empty(), "HOST_SEED={seed}, season {case}: {why}");
                 bad += 1;
             }
         }
@@ -65,7 +65,12 @@ fn faults_are_named_with_their_line() {
         ("teams 4\nslots 65\n", 2, "slots has to be a number from 1 to 64, not '65'"),
         ("teams 4\nslots 3\nteams 4\n", 3, "'teams' was already said"),
         ("teams\n", 1, "this is written 'teams N'"),
-        ("# nothing\n\nteam 4\n", 3, "'team' is not known here; a line begins with teams, slots, game or a kind such as CA1"),
+        ("# nothing\n\nTeam 4\n", 3, "'Team' is written team"),
+        (
+            "# nothing\n\nround 4\n",
+            3,
+            "'round' is not known here; a line begins with teams, slots, team, slot, game or a kind such as CA1",
+        ),
         ("+game 0 1\n", 5, "a game is written 'game HOME AWAY SLOT', with '-' for SLOT if it is unplaced"),
         ("+game 0 4 1\n", 5, "'4' is not a team; teams are 0 to 3"),
         ("+game 0 -1 1\n", 5, "'-1' is not a team; teams are 0 to 3"),
@@ -77,7 +82,7 @@ fn faults_are_named_with_their_line() {
         (
             "+CA9 home hard sum weight=1 kmax=1 T1=all S=all\n",
             5,
-            "'CA9' is not known here; a line begins with teams, slots, game or a kind such as CA1",
+            "'CA9' is not known here; a line begins with teams, slots, team, slot, game or a kind such as CA1",
         ),
         ("+CA1 hard sum weight=1 kmax=1 T1=all S=all\n", 5, "CA1 needs a side: home, away or any"),
         ("+CA1 home sum weight=1 kmax=1 T1=all S=all\n", 5, "CA1 needs hard or soft"),
@@ -109,14 +114,14 @@ fn faults_are_named_with_their_line() {
     ];
     for (text, line, message) in cases {
         let text = text.strip_prefix('+').map_or(text.into(), |rest| format!("{season}{rest}"));
-        let fault = encode(&text).expect_err(&text);
+        let fault = &encode(&text).expect_err(&text).0[0];
         assert_eq!((fault.line, fault.message.as_str()), (line, message), "{text}");
     }
     let meetings = format!("teams 2\nslots 64\n{}", "game 0 1 -\n".repeat(9));
-    assert_eq!(encode(&meetings).unwrap_err().to_string(), "line 11: teams 0 and 1 have more than 8 games");
+    assert_eq!(encode(&meetings).unwrap_err().to_string(), "line 11: team 0 and team 1 have more than 8 games");
     let constraints = format!("{season}{}", "SE1 hard sum weight=1 w=1 T1=all\n".repeat(1025));
     assert_eq!(encode(&constraints).unwrap_err().to_string(), "line 1029: there are more than 1024 constraints");
-    assert_eq!(encode("").unwrap_err().to_string(), "there is no line 'teams N'");
+    assert_eq!(encode("").unwrap_err().to_string(), "there is no line 'teams N'\nthere is no line 'slots N'");
 }
 
 #[test]
@@ -125,11 +130,11 @@ fn damaged_bytes_are_named() {
     let told = |at: usize, value: u8| {
         let mut damaged = bytes.clone();
         damaged[at] = value;
-        decode(&damaged).unwrap_err()
+        decode(&damaged).unwrap_err().0[0].message.clone()
     };
-    assert_eq!(decode(&bytes[..5]).unwrap_err(), "a season has at least 6 bytes, and there are 5");
+    assert_eq!(decode(&bytes[..5]).unwrap_err().to_string(), "a season has at least 6 bytes, and there are 5");
     assert_eq!(
-        decode(&bytes[..119]).unwrap_err(),
+        decode(&bytes[..119]).unwrap_err().to_string(),
         "with 6 games and 4 constraints, season and sheet have 120 bytes, and there are 119"
     );
     assert_eq!(told(0, 33), "sizes: teams has to be a number from 2 to 32, not '33'");
@@ -140,5 +145,5 @@ fn damaged_bytes_are_named() {
     assert_eq!(told(45, 0), "constraint 3: no function has the number 0");
     assert_eq!(told(25, 1), "constraint 0: CA1 has no field w");
     assert_eq!(told(50, 17), "constraint 0: '4' is not a team; teams are 0 to 3");
-    assert_eq!(told(119, 1), "game 5: team 3 already plays in slot 1 (line 7)");
+    assert_eq!(told(119, 1), "game 5: team 3 already plays in slot 1 (game 1)");
 }
