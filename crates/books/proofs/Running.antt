@@ -27,7 +27,7 @@ one-more : (a s p v s′ : ℕ) → a ≡ s % 2 ^ 64 → v ≡ (a + p) % 2 ^ 64 
 one-more a s p v s′ h e g = e ∙ rw (h, g) (mod-add-mod s (2 ^ 64) p)
 
 pub holds-more : {s s′ : (Constraint → Bool) → ℕ} {t r : Totals} (c : Constraint) (p : ℕ)
-    → Holds s t → Adds t c p r → Grown s c p s′ → Holds s′ r
+    → Holds s t → Adds t (c .hard) p r → Grown s c p s′ → Holds s′ r
 holds-more {s} {s′} {t} {r} c p h a g = record {
   hard = one-more (t .hard) (s isHard) (only (isHard c) p) (r .hard) (s′ isHard) (h .hard) (a .0) (g isHard);
   soft = one-more (t .soft) (s isSoft) (only (isSoft c) p) (r .soft) (s′ isSoft) (h .soft) (a .1) (g isSoft);

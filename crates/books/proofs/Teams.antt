@@ -5,11 +5,10 @@ use Prim.Native.Nat.{ℕ, _^_}
 use lib.Bits.{bitAnd, bitOr}
 use borrow.Author.Tests.{eq-eqb}
 use Rattle.robinx.specs.Groups.{has}
-use Rattle.robinx.specs.declared.Constraint.{Constraint}
-use Rattle.masks.proofs.Bits.{and-has, or-has, one-has, none-bit}
-use Rattle.books.specs.Touched.{Named, touchedBy}
+use Rattle.robinx.proofs.Bits.{and-has, or-has, one-has, none-bit}
+use Rattle.robinx.specs.declared.TouchTeams.{TouchTeams}
+use Rattle.books.specs.Touched.{Named, AsksForT1, PassedOver}
 use Rattle.books.specs.declared.touch.Move.{Move}
-use Rattle.books.proofs.Asked.{outside}
 
 of-one : (k : ℕ) → has (2 ^ k) k ≡ true
 of-one k = one-has k k ∙ eq-eqb k k refl
@@ -48,9 +47,6 @@ of-both v w = (
   },
 )
 
--- the group has none of T1
-pub untouched : (c : Constraint) {teams : ℕ} {v : Move} → Named teams v → bitAnd (c .t1) teams ≡ 0 → touchedBy v c ≡ false
-untouched c {teams} {v} n e =
-    outside c (v .home) (v .away) (v .from) (v .to)
-    (apart (c .t1) teams (v .home) e (n .home))
-    (apart (c .t1) teams (v .away) e (n .away))
+-- a group that has none of T1
+pub passed-over : (asked : TouchTeams) (T1 teams : ℕ) → AsksForT1 asked → bitAnd T1 teams ≡ 0 → PassedOver asked T1 teams
+passed-over asked T1 teams asks e T2 i j hi hj = asks T1 T2 i j (apart T1 teams i e hi) (apart T1 teams j e hj)

@@ -7,7 +7,7 @@ use native.Mathlib.Omega.{arith}
 use lib.ListN.{length, getD, set, take, drop}
 use borrow.Author.Tests.{not-false}
 use Rattle.robinx.specs.Sums.{sumTo}
-use Rattle.robinx.specs.Season.{Instance, decode}
+use Rattle.robinx.specs.Season.{Instance, decode, mostSlots}
 use Rattle.robinx.specs.Deviations.{deviations}
 use Rattle.robinx.specs.Penalty.{sum, penalty}
 use Rattle.robinx.specs.Rules.{obeys}
@@ -18,10 +18,11 @@ use Rattle.robinx.specs.declared.Season.{Season}
 use Rattle.robinx.proofs.Sums.{sum-add, any-none}
 use Rattle.robinx.proofs.Limits.{obeyed}
 use Rattle.robinx.proofs.Bounds.{sum-small}
-use Rattle.season.specs.Counted.{entriesIn}
+use Rattle.season.specs.Counted.{onesIn}
+use Rattle.robinx.specs.Kinds.{formAt}
 use Rattle.season.proofs.Read.{InRange, in-range, teams-read, slots-read, constraints-read, sizes-tested}
 use Rattle.season.proofs.Members.{entries-counted}
-use Rattle.timetable.specs.Tables.{xOf}
+use Rattle.timetable.specs.Tables.{Tables, xOf}
 use Rattle.figures.specs.Figures.{Ready}
 use Rattle.books.specs.Running.{Adds}
 use Rattle.books.specs.Walk.{Given, isTouched}
@@ -36,18 +37,19 @@ Walk s touch meets ledger₀ tally₀ k a ledger tally sums =
     Walked (decode s) (λ c. isTouched touch (decode s .constraint c)) (xOf meets) ledger₀ tally₀ k a ledger tally (sums .gained) (sums .lost)
 
 -- a filled stretch leaves room for its penalty
-pub small : {n P : ℕ} {c : Constraint} {home away meets out : List ℕ} → Ready n P c home away meets out
-    → sum (deviations n P c (xOf meets)) < 2 ^ 28
-small {n} {P} {c} {home} {away} {meets} r =
+pub small : {n P : ℕ} {c : Constraint} {t : Tables} {out : List ℕ} → Ready n P c t out
+    → sum (deviations n P c (xOf (t .meets))) < 2 ^ 28
+small {n} {P} {c} {t} r =
     let o = obeyed n P c (r .rules) in
-    let once : (t k : ℕ) → t < n → k < P → sumTo (λ j. xOf meets t j k + xOf meets j t k) n ≤ 1 =
-    λ t k ht hk.
-    let i = r .tied in
-    let h : k < 64 = omega (arith, r .slots) in
-    omega (arith, sum-add (λ j. xOf meets t j k) (λ j. xOf meets j t k) n, i .home-row t k ht h, i .away-row t k ht h, i .once t k ht h) in
-    omega (arith, sum-small n P (r .teams) (r .slots) (xOf meets) once c (o .kmin) (o .kmax) (o .w))
+    let x = xOf (t .meets) in
+    let once : (i k : ℕ) → i < n → k < P → sumTo (λ j. x i j k + x j i k) n ≤ 1 =
+    λ i k hi hk.
+    let w = r .tied in
+    let h : k < mostSlots = omega (arith, r .slots) in
+    omega (arith, sum-add (λ j. x i j k) (λ j. x j i k) n, w .home-row i k hi h, w .away-row i k hi h, w .once i k hi h) in
+    omega (arith, sum-small n P (r .teams) (r .slots) x once c (o .kmin) (o .kmax) (o .w))
 
-module _ {s : List ℕ} {z : Season} {home away meets ledger tally : List ℕ} (g : Given s z home away meets ledger tally) where
+module _ {s : List ℕ} {z : Season} {t : Tables} {ledger tally : List ℕ} (g : Given s z t ledger tally) where
   pub all : z .constraints ≡ decode s .C
   all = constraints-read s (g .measured .sizes)
 
@@ -59,10 +61,26 @@ module _ {s : List ℕ} {z : Season} {home away meets ledger tally : List ℕ} (
   keeps k l =
       not-false _ (any-none (λ c. not (obeys (decode s .n) (decode s .P) (decode s .constraint c))) (decode s .C) (g .rules) k (omega (arith, all)))
 
--- Turn number k, in the words of the code: c has been read, it has e deviations, and its stretch begins at a.
-module _ {s : List ℕ} {z : Season} {home away meets ledger₀ tally₀ : List ℕ} (g : Given s z home away meets ledger₀ tally₀)
-    (touch : Touch) {k a : ℕ} {ledger tally : List ℕ} {sums : Moved} (w : Walk s touch meets ledger₀ tally₀ k a ledger tally sums)
-    (l : k < z .constraints) {c : Constraint} (hc : c ≡ decode s .constraint k) {e : ℕ} (he : e ≡ entriesIn c) where
+-- Turn number k, in the words of the code: c has been read, it has e deviations, and its stretch begins at a. The stretch lies in the
+-- ledger and can be filled; the turn ends with it filled, or with nothing written.
+pub record Turn (s : List ℕ) (z : Season) (touch : Touch) (t : Tables) (ledger₀ tally₀ : List ℕ)
+    (k a : ℕ) (ledger tally : List ℕ) (sums : Moved) (c : Constraint) (e : ℕ) : Type 0 where
+  pub fits : a + e ≤ length ledger
+  pub counted : k < length tally
+  pub ready : Ready (z .teams) (z .slots) c t (take (a + e - a) (drop a ledger))
+  pub reworked : {ledger′ ys tally′ : List ℕ} {sums′ : Moved} → isTouched touch c ≡ true
+      → ys ≡ deviations (z .teams) (z .slots) c (xOf (t .meets))
+      → ledger′ ≡ take a ledger ++ (ys ++ drop (a + e - a) (drop a ledger))
+      → tally′ ≡ set tally k (penalty c (deviations (z .teams) (z .slots) c (xOf (t .meets))))
+      → Adds (sums .gained) (c .hard) (penalty c (deviations (z .teams) (z .slots) c (xOf (t .meets)))) (sums′ .gained)
+      → Adds (sums .lost) (c .hard) (getD tally k 0) (sums′ .lost)
+      → Walk s touch (t .meets) ledger₀ tally₀ (k + 1) (a + e) ledger′ tally′ sums′
+  pub kept : isTouched touch c ≡ false → Walk s touch (t .meets) ledger₀ tally₀ (k + 1) (a + e) ledger tally sums
+
+module _ {s : List ℕ} {z : Season} {t : Tables} {ledger₀ tally₀ : List ℕ} (g : Given s z t ledger₀ tally₀)
+    (touch : Touch) {k a : ℕ} {ledger tally : List ℕ} {sums : Moved} (w : Walk s touch (t .meets) ledger₀ tally₀ k a ledger tally sums)
+    (l : k < z .constraints) {c : Constraint} (hc : c ≡ decode s .constraint k)
+    {e : ℕ} (he : e ≡ onesIn (formAt (c .kind) .shape) c) where
   abbrev m : Instance
   m = decode s
 
@@ -75,39 +93,29 @@ module _ {s : List ℕ} {z : Season} {home away meets ledger₀ tally₀ : List 
   end : a + e ≡ a + entriesAt m k
   end = ap (λ (v : ℕ). a + v) entry
 
-  figures : deviations (z .teams) (z .slots) c (xOf meets) ≡ deviationsAt m (xOf meets) k
+  figures : deviations (z .teams) (z .slots) c (xOf (t .meets)) ≡ deviationsAt m (xOf (t .meets)) k
   figures = rw (teams-read s (g .measured .sizes), slots-read s (g .measured .sizes), hc)
 
-  -- the stretch lies in the ledger, and can be filled
-  pub turn-fits : a + e ≤ length ledger
-  turn-fits = rw entry (walked-fits w (g .ledger-length) (g .tally-length) more)
+  inside : a + e ≤ length ledger
+  inside = rw entry (walked-fits w (g .ledger-length) (g .tally-length) more)
 
-  pub turn-counted : k < length tally
-  turn-counted = omega (arith, more, w .listed .long, g .tally-length)
-
-  pub turn-ready : Ready (z .teams) (z .slots) c home away meets (take (a + e - a) (drop a ledger))
-  turn-ready =
-      rw (teams-read s (g .measured .sizes), slots-read s (g .measured .sizes), hc)
-      (record {
-        teams = rw (← teams-read s (g .measured .sizes)) (ranges g .teams);
-        slots = rw (← slots-read s (g .measured .sizes)) (ranges g .slots);
-        rules = keeps g k l;
-        tied = g .tied;
-        places = part-length ledger a (a + e) (entriesAt m k) end turn-fits;
-      })
-
-  pub turn-reworked : {ledger′ ys tally′ : List ℕ} {sums′ : Moved} → isTouched touch c ≡ true
-      → ys ≡ deviations (z .teams) (z .slots) c (xOf meets)
-      → ledger′ ≡ take a ledger ++ (ys ++ drop (a + e - a) (drop a ledger))
-      → tally′ ≡ set tally k (penalty c (deviations (z .teams) (z .slots) c (xOf meets)))
-      → Adds (sums .gained) c (penalty c (deviations (z .teams) (z .slots) c (xOf meets))) (sums′ .gained)
-      → Adds (sums .lost) c (getD tally k 0) (sums′ .lost)
-      → Walk s touch meets ledger₀ tally₀ (k + 1) (a + e) ledger′ tally′ sums′
-  turn-reworked t hy hl ht hg hs =
-      rw ht
-      (walked-reworked w (g .ledger-length) (g .tally-length) more end (rw (← hc) t) (hy ∙ figures) (rw (figures, hc)) hl
-      (rw (← hc) hg)
-      (rw (← hc) hs))
-
-  pub turn-kept : isTouched touch c ≡ false → Walk s touch meets ledger₀ tally₀ (k + 1) (a + e) ledger tally sums
-  turn-kept t = walked-kept w (g .ledger-length) (g .tally-length) more end (rw (← hc) t)
+  pub turn : Turn s z touch t ledger₀ tally₀ k a ledger tally sums c e
+  turn = record {
+    fits = inside;
+    counted = omega (arith, more, w .listed .long, g .tally-length);
+    ready =
+        rw (teams-read s (g .measured .sizes), slots-read s (g .measured .sizes), hc)
+        (record {
+          teams = rw (← teams-read s (g .measured .sizes)) (ranges g .teams);
+          slots = rw (← slots-read s (g .measured .sizes)) (ranges g .slots);
+          rules = keeps g k l;
+          tied = g .tied;
+          places = part-length ledger a (a + e) (entriesAt m k) end inside;
+        });
+    reworked = λ h hy hl ht hg hs.
+        rw ht
+        (walked-reworked w (g .ledger-length) (g .tally-length) more end (rw (← hc) h) (hy ∙ figures) (rw (figures, hc)) hl
+        (rw (← hc) hg)
+        (rw (← hc) hs));
+    kept = λ h. walked-kept w (g .ledger-length) (g .tally-length) more end (rw (← hc) h);
+  }

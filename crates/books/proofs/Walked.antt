@@ -50,7 +50,7 @@ module _ {m : Instance} {t : ℕ → Bool} {x : X} {ledger₀ tally₀ : List �
     pub walked-reworked : {ledger′ ys : List ℕ} {v : ℕ} {got′ gone′ : Totals} → t k ≡ true
         → ys ≡ deviationsAt m x k → v ≡ penaltyAt m x k
         → ledger′ ≡ take at ledger ++ (ys ++ drop (e - at) (drop at ledger))
-        → Adds got (m .constraint k) v got′ → Adds gone (m .constraint k) (getD tally k 0) gone′
+        → Adds got (m .constraint k .hard) v got′ → Adds gone (m .constraint k .hard) (getD tally k 0) gone′
         → Walked m t x ledger₀ tally₀ (k + 1) e ledger′ (set tally k v) got′ gone′
     walked-reworked {ledger′} {ys} {v} {got′} {gone′} h hy hv hl hg hs = record {
       laid =

@@ -1,3 +1,4 @@
 pub mod Touched
 pub mod Running
 pub mod Walk
+pub mod Answer

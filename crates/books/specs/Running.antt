@@ -1,7 +1,8 @@
 -- What two running totals are to hold.
 use mathlib.Core.Path.{_≡_}
-use mathlib.Core.Bool.{Bool}
+use mathlib.Core.Bool.{Bool, not}
 use Prim.Native.Nat.{ℕ, _+_, _%_, _^_}
+use lib.Dec.{eqb}
 use Rattle.robinx.specs.Sums.{only}
 use Rattle.robinx.specs.Books.{isHard, isSoft}
 use Rattle.robinx.specs.Calls.{movedTotal}
@@ -13,9 +14,10 @@ pub record Holds (sum : (Constraint → Bool) → ℕ) (t : Totals) : Type 0 whe
   pub hard : t .hard ≡ sum isHard % 2 ^ 64
   pub soft : t .soft ≡ sum isSoft % 2 ^ 64
 
--- t with the penalty p of the constraint c added is r
-abbrev pub Adds : Totals → Constraint → ℕ → Totals → Type 0
-Adds t c p r = (r .hard ≡ (t .hard + only (isHard c) p) % 2 ^ 64) × (r .soft ≡ (t .soft + only (isSoft c) p) % 2 ^ 64)
+-- t with a penalty p added is r, where `hard` is the constraint's byte
+abbrev pub Adds : Totals → ℕ → ℕ → Totals → Type 0
+Adds t hard p r =
+    (r .hard ≡ (t .hard + only (eqb hard 1) p) % 2 ^ 64) × (r .soft ≡ (t .soft + only (not (eqb hard 1)) p) % 2 ^ 64)
 
 -- t with each total moved by its own change, which d holds
 abbrev pub movedBy : Totals → Totals → Totals

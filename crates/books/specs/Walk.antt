@@ -1,32 +1,30 @@
 -- What a walk over a season's constraints is given, and what it leaves.
 use mathlib.Core.Path.{_≡_}
-use mathlib.Core.List.{List, [], _∷_, _++_}
+use mathlib.Core.List.{List, _++_}
 use mathlib.Core.Bool.{Bool, false, _||_}
 use Prim.Native.Nat.{ℕ, _+_}
-use lib.ListN.{length, getD, set, drop}
+use lib.ListN.{length, set, drop}
 use Rattle.robinx.specs.Sums.{catTo, listTo}
 use Rattle.robinx.specs.Season.{Instance, decode}
 use Rattle.robinx.specs.Timetable.{X}
-use Rattle.robinx.specs.Books.{deviationsAt, penaltyAt, allEntries, isHard, isSoft, total}
-use Rattle.robinx.specs.Calls.{reworkedStretch, reworkedPenalty, gained, lost, change, movedTotal}
+use Rattle.robinx.specs.Books.{allEntries}
+use Rattle.robinx.specs.Calls.{reworkedStretch, reworkedPenalty, gained, lost}
 use Rattle.robinx.specs.Refusals.{sentence2, sentence5}
 use Rattle.robinx.specs.declared.Constraint.{Constraint}
 use Rattle.robinx.specs.declared.Season.{Season}
-use Rattle.robinx.specs.declared.Totals.{Totals}
 use Rattle.season.specs.Sizes.{Measured}
-use Rattle.timetable.specs.Tables.{Tied}
-use Rattle.books.specs.Touched.{Possible, Named, touchedBy}
+use Rattle.timetable.specs.Tables.{Tables, Tied}
+use Rattle.books.specs.Touched.{Possible, Named, touchedByMove}
 use Rattle.books.specs.Running.{Holds}
-use Rattle.books.specs.declared.touch.Move.{Move}
 use Rattle.books.specs.declared.walk.Touch.{Touch}
 use Rattle.books.specs.declared.walk.Moved.{Moved}
 
 -- a season whose sizes and constraints no sentence refuses, tables of its teams, and books of its lengths
-pub record Given (s : List ℕ) (z : Season) (home away meets ledger tally : List ℕ) : Type 0 where
+pub record Given (s : List ℕ) (z : Season) (t : Tables) (ledger tally : List ℕ) : Type 0 where
   pub measured : Measured s z
   pub sizes : sentence2 (decode s) ≡ false
   pub rules : sentence5 (decode s) ≡ false
-  pub tied : Tied (decode s .n) home away meets
+  pub tied : Tied (decode s .n) t
   pub ledger-length : length ledger ≡ allEntries (decode s)
   pub tally-length : length tally ≡ decode s .C + 2
 
@@ -39,10 +37,7 @@ pub record Sound (τ : Touch) : Type 0 where
 
 -- which constraints are worked out
 abbrev pub isTouched : Touch → Constraint → Bool
-isTouched τ c = τ .all || (touchedBy (τ .first) c || touchedBy (τ .second) c)
-
-abbrev pub byMoves : Instance → Move → Move → ℕ → Bool
-byMoves m first second k = touchedBy first (m .constraint k) || touchedBy second (m .constraint k)
+isTouched τ c = τ .all || (touchedByMove (τ .first) c || touchedByMove (τ .second) c)
 
 -- The touched constraints' figures are those of x, the others' are as they were; the two totals in the tally are not looked at.
 pub record Reworked (m : Instance) (t : ℕ → Bool) (x : X) (ledger tally ledger′ tally′ : List ℕ) (r : Moved) : Type 0 where
@@ -51,27 +46,6 @@ pub record Reworked (m : Instance) (t : ℕ → Bool) (x : X) (ledger tally ledg
   pub got : Holds (λ want. gained want m t x (m .C)) (r .gained)
   pub gone : Holds (λ want. lost want m t tally (m .C)) (r .lost)
 
--- All figures are those of x.
-pub record Filled (m : Instance) (x : X) (tally ledger′ tally′ : List ℕ) (r : Totals) : Type 0 where
-  pub ledger-is : ledger′ ≡ catTo (deviationsAt m x) (m .C)
-  pub tally-is : tally′ ≡ listTo (penaltyAt m x) (m .C) ++ drop (m .C) tally
-  pub totals : Holds (λ want. total want m x) r
-
 -- the tally with its two totals written
 abbrev pub stored : List ℕ → ℕ → ℕ → ℕ → List ℕ
 stored tally at hard soft = set (set tally at hard) (at + 1) soft
-
--- The books of x, with its totals r.
-pub record Opened (m : Instance) (x : X) (ledger′ tally′ : List ℕ) (r : Totals) : Type 0 where
-  pub ledger-is : ledger′ ≡ catTo (deviationsAt m x) (m .C)
-  pub tally-is : tally′ ≡ listTo (penaltyAt m x) (m .C) ++ r .hard ∷ r .soft ∷ []
-  pub totals : Holds (λ want. total want m x) r
-
--- The reworked books, and the changes r by which their totals have moved.
-pub record Updated (m : Instance) (t : ℕ → Bool) (x : X) (ledger tally ledger′ tally′ : List ℕ) (r : Totals) : Type 0 where
-  pub ledger-is : ledger′ ≡ catTo (reworkedStretch m t x ledger) (m .C)
-  pub tally-is : tally′
-      ≡ listTo (reworkedPenalty m t x tally) (m .C)
-      ++ movedTotal (getD tally (m .C) 0) (r .hard) ∷ movedTotal (getD tally (m .C + 1) 0) (r .soft) ∷ []
-  pub hard : r .hard ≡ change isHard m t x tally
-  pub soft : r .soft ≡ change isSoft m t x tally

@@ -1,20 +1,27 @@
-// The ledger and the tally. Opening them works out every constraint; an update reworks only those which a change touches.
+// The ledger and the tally: a walk works out the touched constraints, all of them when the books are opened, and the totals follow.
 pub mod totals;
 pub mod touch;
 pub mod walk;
 
 ghost use mathlib.Core.Path.{_≡_};
+ghost use mathlib.Core.Bool.{cond};
 ghost use Prim.Native.Nat.{_+_, _-_, _%_, _^_};
+ghost use lib.Dec.{ltb};
 ghost use lib.ListN.{length, getD};
+ghost use mir.Syntax.{w64};
+ghost use mir.Val.{toZ};
 ghost use Rattle.robinx.specs.Season.{decode};
-ghost use Rattle.robinx.specs.Calls.{movedTotal};
-ghost use Rattle.timetable.specs.Tables.{xOf};
-ghost use Rattle.books.specs.Touched.{Possible};
-ghost use Rattle.books.specs.Walk.{Given, byMoves, stored, Opened, Updated};
+ghost use Rattle.robinx.specs.Calls.{movedTotal, accepted};
+ghost use Rattle.timetable.specs.Tables.{tables, xOf};
+ghost use Rattle.books.specs.Walk.{Given, Sound, isTouched, stored};
+ghost use Rattle.books.specs.Answer.{verdictOf, Opened, Answered};
+use robinx::Reply;
 use robinx::Season;
 use robinx::Totals;
-use touch::Move;
 use walk::Moved;
+use walk::Touch;
+use walk::everything;
+use walk::walk;
 
 // Writes the two totals, which follow the penalties.
 fn store(totals: Totals, at: usize, tally: &mut [u64])
@@ -44,50 +51,78 @@ fn settle(moved: Moved, at: usize, tally: &mut [u64]) -> Totals
     change
 }
 
-// The books of the tables, and the totals.
+// The verdict, from the number of unplaced games and the infeasibility.
+fn verdict(unplaced: usize, infeasibility: u64) -> u8
+    ensures { λ r. ⌜ r ≡ verdictOf unplaced infeasibility ⌝ }
+{
+    if 0 < unplaced {
+        return 1;
+    }
+    if 0 < infeasibility {
+        return 2;
+    }
+    0
+}
+
+// An accepted call's reply: its verdict, and the changes of infeasibility and objective as two's complement.
+fn accepted(number: u8, change: Totals) -> Reply
+    ensures { λ r. ⌜ r ≡ accepted number (toZ w64 (change .hard)) (toZ w64 (change .soft)) ⌝ }
+{
+    Reply {
+        declined: false,
+        number,
+        infeasibility: totals::signed(change.hard),
+        objective: totals::signed(change.soft),
+    }
+}
+
+// The books of the tables, of whose sheet so many games are unplaced. The changes are the totals themselves.
 pub fn open(
     season: &[u8],
     z: Season,
-    home: &[u64; 32],
-    away: &[u64; 32],
-    meets: &[u64; 1024],
+    unplaced: usize,
+    home: &[u64; Season::TEAMS],
+    away: &[u64; Season::TEAMS],
+    meets: &[u64; Season::PLACES],
     ledger: &mut [u32],
     tally: &mut [u64],
-) -> Totals
-    requires { ⌜ Given (now season) z (now home) (now away) (now meets) (now ledger) (now tally) ⌝ }
-    ensures { λ r. ⌜ Opened (decode (now (season .entry))) (xOf (now (meets .entry))) (now (ledger .exit)) (now (tally .exit)) r ⌝ }
+) -> Reply
+    requires { ⌜ Given (now season) z (tables (now home) (now away) (now meets)) (now ledger) (now tally) ⌝ }
+    ensures { λ r. ⌜ Opened (decode (now (season .entry))) (xOf (now (meets .entry))) unplaced (now (ledger .exit)) (now (tally .exit)) r ⌝ }
 {
-    let totals = walk::fill_all(season, z, home, away, meets, ledger, &mut *tally);
-    store(totals, z.constraints, tally);
-    totals
-}
-
-// The books after one or two moves, of which the tables are, and the changes of the totals.
-pub fn update(
-    season: &[u8],
-    z: Season,
-    first: Move,
-    second: Move,
-    home: &[u64; 32],
-    away: &[u64; 32],
-    meets: &[u64; 1024],
-    ledger: &mut [u32],
-    tally: &mut [u64],
-) -> Totals
-    requires { ⌜ Given (now season) z (now home) (now away) (now meets) (now ledger) (now tally) × Possible first × Possible second ⌝ }
-    ensures { λ r. ⌜ Updated (decode (now (season .entry))) (byMoves (decode (now (season .entry))) first second)
-        (xOf (now (meets .entry))) (now (ledger .entry)) (now (tally .entry)) (now (ledger .exit)) (now (tally .exit)) r ⌝ }
-{
-    let moved = walk::rework(
+    let moved = walk(
         season,
         z,
-        first,
-        second,
+        everything(),
         home,
         away,
         meets,
         ledger,
         &mut *tally,
     );
-    settle(moved, z.constraints, tally)
+    let totals = moved.gained;
+    store(totals, z.constraints, tally);
+    accepted(verdict(unplaced, totals.hard), totals)
+}
+
+// The books after a change that touches some constraints, of which the tables are.
+pub fn rework(
+    season: &[u8],
+    z: Season,
+    touch: Touch,
+    unplaced: usize,
+    home: &[u64; Season::TEAMS],
+    away: &[u64; Season::TEAMS],
+    meets: &[u64; Season::PLACES],
+    ledger: &mut [u32],
+    tally: &mut [u64],
+) -> Reply
+    requires { ⌜ Given (now season) z (tables (now home) (now away) (now meets)) (now ledger) (now tally) × Sound touch ⌝ }
+    ensures { λ r. ⌜ Answered (decode (now (season .entry))) (λ k. isTouched touch (decode (now (season .entry)) .constraint k))
+        (xOf (now (meets .entry))) unplaced (now (ledger .entry)) (now (tally .entry)) (now (ledger .exit)) (now (tally .exit)) r ⌝ }
+{
+    let moved = walk(season, z, touch, home, away, meets, ledger, &mut *tally);
+    let at = z.constraints;
+    let change = settle(moved, at, &mut *tally);
+    accepted(verdict(unplaced, tally[at]), change)
 }

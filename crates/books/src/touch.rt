@@ -1,11 +1,17 @@
-// Which constraints the change of a game's slot touches. Each kind asks one thing of the two teams and one of the slots.
+// Which constraints the change of a game's slot touches: by the row of a constraint's kind, one thing is asked of the two teams and one of
+// the slots.
 ghost use mathlib.Core.Path.{_≡_};
 ghost use mathlib.Core.Bool.{true, _||_};
-ghost use Prim.Native.Nat.{_<_, _≤_, _^_};
-ghost use Rattle.robinx.specs.Groups.{has, reaches};
-ghost use Rattle.robinx.specs.Touch.{across};
-ghost use Rattle.books.specs.Touched.{teamsAsked, atSlot, slotAsked, noMove, Possible, Named, touchedBy};
+ghost use Prim.Native.Nat.{_<_, _≤_};
+ghost use Rattle.robinx.specs.Season.{mostTeams, mostSlots};
+ghost use Rattle.robinx.specs.Touch.{teamsTouch, slotTouches};
+ghost use Rattle.books.specs.Touched.{atSlot, noMove, Possible, Named, AsksForT1, PassedOver, byRow};
+use groups::is_in;
+use masks::Slots;
 use robinx::Constraint;
+use robinx::Form;
+use robinx::TouchSlots;
+use robinx::TouchTeams;
 
 // Game (home, away) goes from one slot of the sheet to another; 0 is none.
 pub struct Move {
@@ -27,155 +33,92 @@ pub fn no_move() -> Move
     }
 }
 
-// The group of one team.
-fn group_of(t: u8) -> u32
-    requires { ⌜ t < 32 ⌝ }
-    ensures { λ r. ⌜ r ≡ 2 ^ t ⌝ }
-{
-    1u32 << (t as u32)
-}
-
 // The group of the teams of two moves.
 pub fn teams_of(first: Move, second: Move) -> u32
     requires { ⌜ Possible first × Possible second ⌝ }
     ensures { λ r. ⌜ Named r first × Named r second ⌝ }
 {
-    let one = group_of(first.home) | group_of(first.away);
-    let other = group_of(second.home) | group_of(second.away);
+    let one = groups::one(first.home as usize) | groups::one(first.away as usize);
+    let other = groups::one(second.home as usize) | groups::one(second.away as usize);
     one | other
 }
 
-// Team t is in the group.
-fn in_group(group: u32, t: u8) -> bool
-    requires { ⌜ t < 32 ⌝ }
-    ensures { λ r. ⌜ r ≡ has group t ⌝ }
+// A game of i at home against j is such as the row asks.
+fn teams_touch(asked: TouchTeams, t1: u32, t2: u32, i: usize, j: usize) -> bool
+    requires { ⌜ (i < mostTeams) × (j < mostTeams) ⌝ }
+    ensures { λ r. ⌜ r ≡ teamsTouch asked t1 t2 i j ⌝ }
 {
-    masks::is_in(group as u64, t as u64)
-}
-
-// One of the two teams is in T1 and the other in T2.
-fn across(c: Constraint, i: u8, j: u8) -> bool
-    requires { ⌜ (i < 32) × (j < 32) ⌝ }
-    ensures { λ r. ⌜ r ≡ across c i j ⌝ }
-{
-    (in_group(c.t1, i) & in_group(c.t2, j)) | (in_group(c.t1, j) & in_group(c.t2, i))
-}
-
-// Capacity: CA1 asks for no more than a team of T1, the other kinds for one of T2 as its opponent.
-fn capacity_teams(c: Constraint, i: u8, j: u8) -> bool
-    requires { ⌜ (i < 32) × (j < 32) × (11 ≤ c .kind) × (c .kind ≤ 14) × (has (c .t1) i || has (c .t1) j ≡ true) ⌝ }
-    ensures { λ r. ⌜ r ≡ teamsAsked c i j ⌝ }
-{
-    if c.kind == 11 {
-        return true;
-    }
-    across(c, i, j)
-}
-
-// The teams are such as the kind asks. Every kind asks for one of T1. The kinds of a class ask the same, but for capacity.
-fn teams_asked(c: Constraint, i: u8, j: u8) -> bool
-    requires { ⌜ (i < 32) × (j < 32) ⌝ }
-    ensures { λ r. ⌜ r ≡ teamsAsked c i j ⌝ }
-{
-    let first = in_group(c.t1, i);
-    let second = in_group(c.t1, j);
-    if !(first | second) {
-        return false;
-    }
-    let kind = c.kind;
-    match kind {
-        11..=14 => capacity_teams(c, i, j),
-        21 => first & in_group(c.t2, j),
-        31..=32 => true,
-        41..=42 => first & second,
-        51 => first & second,
-        _ => false,
+    match asked {
+        TouchTeams::Nobody => false,
+        TouchTeams::OneInT1 => is_in(t1, i) | is_in(t1, j),
+        TouchTeams::Across => (is_in(t1, i) & is_in(t2, j)) | (is_in(t1, j) & is_in(t2, i)),
+        TouchTeams::HomeAndAway => is_in(t1, i) & is_in(t2, j),
+        TouchTeams::BothInT1 => is_in(t1, i) & is_in(t1, j),
     }
 }
 
-// The sheet's slot b is in the mask.
-fn in_at(s: u64, b: u8) -> bool
-    requires { ⌜ b ≤ 64 ⌝ }
-    ensures { λ r. ⌜ r ≡ atSlot (has s) b ⌝ }
+// Every game that the row asks for has a team of T1.
+fn asks_for_t1(asked: TouchTeams) -> bool
+    ensures { λ r. ⌜ (r ≡ true → AsksForT1 asked) ⌝ }
+{
+    match asked {
+        TouchTeams::Nobody
+        | TouchTeams::OneInT1
+        | TouchTeams::Across
+        | TouchTeams::HomeAndAway
+        | TouchTeams::BothInT1 => true,
+    }
+}
+
+// None of the teams is in T1, and the row asks for one that is. The groups are tested first: few constraints have a team in both.
+pub fn passed_over(f: Form, t1: u32, teams: u32) -> bool
+    ensures { λ r. ⌜ (r ≡ true → PassedOver (f .teams) t1 teams) ⌝ }
+{
+    if t1 & teams == 0 {
+        let asked = f.teams;
+        return asks_for_t1(asked);
+    }
+    false
+}
+
+// Slot b of the sheet is such as the row asks.
+fn slot_touches(asked: TouchSlots, s: Slots, b: u8) -> bool
+    requires { ⌜ b ≤ mostSlots ⌝ }
+    ensures { λ r. ⌜ r ≡ atSlot (slotTouches asked s) b ⌝ }
 {
     if b == 0 {
         return false;
     }
-    masks::is_in(s, (b - 1) as u64)
-}
-
-// .. is at or before the mask's last slot.
-fn reaches_at(s: u64, b: u8) -> bool
-    requires { ⌜ b ≤ 64 ⌝ }
-    ensures { λ r. ⌜ r ≡ atSlot (reaches s) b ⌝ }
-{
-    if b == 0 {
-        return false;
-    }
-    masks::last_reach(s, (b - 1) as u64)
-}
-
-fn one_in(s: u64, a: u8, b: u8) -> bool
-    requires { ⌜ (a ≤ 64) × (b ≤ 64) ⌝ }
-    ensures { λ r. ⌜ r ≡ atSlot (has s) a || atSlot (has s) b ⌝ }
-{
-    in_at(s, a) | in_at(s, b)
-}
-
-fn one_reaches(s: u64, a: u8, b: u8) -> bool
-    requires { ⌜ (a ≤ 64) × (b ≤ 64) ⌝ }
-    ensures { λ r. ⌜ r ≡ atSlot (reaches s) a || atSlot (reaches s) b ⌝ }
-{
-    reaches_at(s, a) | reaches_at(s, b)
-}
-
-// Capacity: CA3 asks for any slot, the other kinds for one of S.
-fn capacity_slots(c: Constraint, a: u8, b: u8) -> bool
-    requires { ⌜ (a ≤ 64) × (b ≤ 64) × (a ≡ b → ⊥) × (11 ≤ c .kind) × (c .kind ≤ 14) ⌝ }
-    ensures { λ r. ⌜ r ≡ slotAsked c a || slotAsked c b ⌝ }
-{
-    if c.kind == 13 {
-        return true;
-    }
-    one_in(c.s, a, b)
-}
-
-// One of two slots is such as the kind asks.
-fn slots_asked(c: Constraint, a: u8, b: u8) -> bool
-    requires { ⌜ (a ≤ 64) × (b ≤ 64) × (a ≡ b → ⊥) ⌝ }
-    ensures { λ r. ⌜ r ≡ slotAsked c a || slotAsked c b ⌝ }
-{
-    let kind = c.kind;
-    match kind {
-        11..=14 => capacity_slots(c, a, b),
-        21 => one_in(c.s, a, b),
-        31..=32 => one_reaches(c.s, a, b),
-        41..=42 => one_reaches(c.s, a, b),
-        51 => true,
-        _ => false,
+    match asked {
+        TouchSlots::InS => masks::is_in(s, (b - 1) as u64),
+        TouchSlots::UpToLastOfS => masks::last_reach(s, (b - 1) as u64),
+        TouchSlots::AnySlot => true,
     }
 }
 
-pub fn touches(c: Constraint, v: Move) -> bool
+// A move touches a constraint of a kind with this row.
+fn touches(f: Form, c: Constraint, v: Move) -> bool
     requires { ⌜ Possible v ⌝ }
-    ensures { λ r. ⌜ r ≡ touchedBy v c ⌝ }
+    ensures { λ r. ⌜ r ≡ byRow f c v ⌝ }
 {
     if v.from == v.to {
         return false;
     }
-    if teams_asked(c, v.home, v.away) {
-        return slots_asked(c, v.from, v.to);
+    let teams = f.teams;
+    let slots = f.slots;
+    if teams_touch(teams, c.t1, c.t2, v.home as usize, v.away as usize) {
+        return slot_touches(slots, c.s, v.from) | slot_touches(slots, c.s, v.to);
     }
     false
 }
 
 // An exchange touches what either of its moves touches.
-pub fn either_touches(c: Constraint, first: Move, second: Move) -> bool
+pub fn either_touches(f: Form, c: Constraint, first: Move, second: Move) -> bool
     requires { ⌜ Possible first × Possible second ⌝ }
-    ensures { λ r. ⌜ r ≡ touchedBy first c || touchedBy second c ⌝ }
+    ensures { λ r. ⌜ r ≡ byRow f c first || byRow f c second ⌝ }
 {
-    if touches(c, first) {
+    if touches(f, c, first) {
         return true;
     }
-    touches(c, second)
+    touches(f, c, second)
 }

@@ -1,24 +1,27 @@
 // The walk over a season's constraints. It lends out the stretch of each touched one, and writes nothing for the others.
 ghost use mathlib.Core.Path.{_≡_};
+ghost use mathlib.Core.Bool.{true, false};
 ghost use Prim.Native.Nat.{_+_, _<_};
 ghost use lib.ListN.{length, getD, set};
 ghost use Rattle.robinx.specs.Season.{decode};
 ghost use Rattle.robinx.specs.Deviations.{deviations};
 ghost use Rattle.robinx.specs.Penalty.{penalty};
-ghost use Rattle.timetable.specs.Tables.{xOf};
+ghost use Rattle.timetable.specs.Tables.{tables, xOf};
 ghost use Rattle.figures.specs.Figures.{Ready};
 ghost use Rattle.books.specs.Touched.{Possible};
 ghost use Rattle.books.specs.Running.{Adds};
-ghost use Rattle.books.specs.Walk.{Given, Sound, isTouched, byMoves, Reworked, Filled};
+ghost use Rattle.books.specs.Walk.{Given, Sound, isTouched, Reworked};
 use super::totals::added;
 use super::touch::Move;
 use super::touch::either_touches;
 use super::touch::no_move;
+use super::touch::passed_over;
 use super::touch::teams_of;
 use figures::fill;
 use robinx::Constraint;
 use robinx::Season;
 use robinx::Totals;
+use season::kinds::form_of;
 
 // What a call changes: everything, or what its moves touch. `teams` are the teams of the moves.
 pub struct Touch {
@@ -34,7 +37,33 @@ pub struct Moved {
     pub lost: Totals,
 }
 
-// Every kind asks for a team of T1, and most constraints have none of the moves there.
+// A walk that works out every constraint.
+pub fn everything() -> Touch
+    ensures { λ r. ⌜ (r .all ≡ true) × Sound r ⌝ }
+{
+    let none = no_move();
+    Touch {
+        all: true,
+        teams: teams_of(none, none),
+        first: none,
+        second: none,
+    }
+}
+
+// One that works out what a move of two touches.
+pub fn moves(first: Move, second: Move) -> Touch
+    requires { ⌜ Possible first × Possible second ⌝ }
+    ensures { λ r. ⌜ (r .all ≡ false) × (r .first ≡ first) × (r .second ≡ second) × Sound r ⌝ }
+{
+    Touch {
+        all: false,
+        teams: teams_of(first, second),
+        first,
+        second,
+    }
+}
+
+// Most constraints have no team of the moves in T1, and are passed over.
 fn is_touched(c: Constraint, touch: Touch) -> bool
     requires { ⌜ Sound touch ⌝ }
     ensures { λ r. ⌜ r ≡ isTouched touch c ⌝ }
@@ -42,28 +71,44 @@ fn is_touched(c: Constraint, touch: Touch) -> bool
     if touch.all {
         return true;
     }
-    if c.t1 & touch.teams == 0 {
+    let form = form_of(c.kind);
+    if passed_over(form, c.t1, touch.teams) {
         return false;
     }
-    either_touches(c, touch.first, touch.second)
+    either_touches(form, c, touch.first, touch.second)
 }
 
-// Works out a constraint's deviations, and from them its penalty.
-fn price(
+// Works out a constraint's deviations into the stretch, and from them its penalty. Nothing else is written.
+pub fn price(
     c: Constraint,
     n: usize,
     p: usize,
-    home: &[u64; 32],
-    away: &[u64; 32],
-    meets: &[u64; 1024],
+    home: &[u64; Season::TEAMS],
+    away: &[u64; Season::TEAMS],
+    meets: &[u64; Season::PLACES],
     stretch: &mut [u32],
 ) -> u64
-    requires { ⌜ Ready n p c (now home) (now away) (now meets) (now stretch) ⌝ }
+    requires { ⌜ Ready n p c (tables (now home) (now away) (now meets)) (now stretch) ⌝ }
     ensures { λ r. ⌜ (now (stretch .exit) ≡ deviations n p c (xOf (now (meets .entry))))
         × (r ≡ penalty c (deviations n p c (xOf (now (meets .entry))))) ⌝ }
 {
     fill(c, n, p, home, away, meets, &mut *stretch);
     penalties::penalty(c, &*stretch)
+}
+
+// Stores the penalty of constraint number k, and adds it and the one that it replaces to the sums.
+fn enter(sums: Moved, hard: u8, k: usize, new: u64, tally: &mut [u64]) -> Moved
+    requires { ⌜ k < length (now tally) ⌝ }
+    ensures { λ r. ⌜ (now (tally .exit) ≡ set (now (tally .entry)) k new)
+        × Adds (sums .gained) hard new (r .gained)
+        × Adds (sums .lost) hard (getD (now (tally .entry)) k 0) (r .lost) ⌝ }
+{
+    let old = tally[k];
+    tally[k] = new;
+    Moved {
+        gained: added(sums.gained, hard, new),
+        lost: added(sums.lost, hard, old),
+    }
 }
 
 // One touched constraint, number k.
@@ -72,38 +117,34 @@ fn renew(
     c: Constraint,
     z: Season,
     k: usize,
-    home: &[u64; 32],
-    away: &[u64; 32],
-    meets: &[u64; 1024],
+    home: &[u64; Season::TEAMS],
+    away: &[u64; Season::TEAMS],
+    meets: &[u64; Season::PLACES],
     stretch: &mut [u32],
     tally: &mut [u64],
 ) -> Moved
-    requires { ⌜ Ready (z .teams) (z .slots) c (now home) (now away) (now meets) (now stretch) × (k < length (now tally)) ⌝ }
+    requires { ⌜ Ready (z .teams) (z .slots) c (tables (now home) (now away) (now meets)) (now stretch) × (k < length (now tally)) ⌝ }
     ensures { λ r. ⌜ (now (stretch .exit) ≡ deviations (z .teams) (z .slots) c (xOf (now (meets .entry))))
         × (now (tally .exit) ≡ set (now (tally .entry)) k (penalty c (deviations (z .teams) (z .slots) c (xOf (now (meets .entry))))))
-        × Adds (sums .gained) c (penalty c (deviations (z .teams) (z .slots) c (xOf (now (meets .entry))))) (r .gained)
-        × Adds (sums .lost) c (getD (now (tally .entry)) k 0) (r .lost) ⌝ }
+        × Adds (sums .gained) (c .hard) (penalty c (deviations (z .teams) (z .slots) c (xOf (now (meets .entry))))) (r .gained)
+        × Adds (sums .lost) (c .hard) (getD (now (tally .entry)) k 0) (r .lost) ⌝ }
 {
-    let old = tally[k];
     let new = price(c, z.teams, z.slots, home, away, meets, stretch);
-    tally[k] = new;
-    Moved {
-        gained: added(sums.gained, c.hard, new),
-        lost: added(sums.lost, c.hard, old),
-    }
+    enter(sums, c.hard, k, new, tally)
 }
 
-fn walk(
+// Works out the constraints that are touched.
+pub fn walk(
     season: &[u8],
     z: Season,
     touch: Touch,
-    home: &[u64; 32],
-    away: &[u64; 32],
-    meets: &[u64; 1024],
+    home: &[u64; Season::TEAMS],
+    away: &[u64; Season::TEAMS],
+    meets: &[u64; Season::PLACES],
     ledger: &mut [u32],
     tally: &mut [u64],
 ) -> Moved
-    requires { ⌜ Given (now season) z (now home) (now away) (now meets) (now ledger) (now tally) × Sound touch ⌝ }
+    requires { ⌜ Given (now season) z (tables (now home) (now away) (now meets)) (now ledger) (now tally) × Sound touch ⌝ }
     ensures { λ r. ⌜ Reworked (decode (now (season .entry))) (λ k. isTouched touch (decode (now (season .entry)) .constraint k))
         (xOf (now (meets .entry))) (now (ledger .entry)) (now (tally .entry)) (now (ledger .exit)) (now (tally .exit)) r ⌝ }
 {
@@ -115,7 +156,7 @@ fn walk(
     let mut k = 0;
     while k < z.constraints {
         let c = season::cursor::constraint_of(season, z, k);
-        let end = at + season::rules::entries(c);
+        let end = at + season::rules::entries_of(c);
         if is_touched(c, touch) {
             sums = renew(
                 sums,
@@ -133,54 +174,4 @@ fn walk(
         k += 1;
     }
     sums
-}
-
-// Works out every constraint and gives the totals.
-pub fn fill_all(
-    season: &[u8],
-    z: Season,
-    home: &[u64; 32],
-    away: &[u64; 32],
-    meets: &[u64; 1024],
-    ledger: &mut [u32],
-    tally: &mut [u64],
-) -> Totals
-    requires { ⌜ Given (now season) z (now home) (now away) (now meets) (now ledger) (now tally) ⌝ }
-    ensures { λ r. ⌜ Filled (decode (now (season .entry))) (xOf (now (meets .entry)))
-        (now (tally .entry)) (now (ledger .exit)) (now (tally .exit)) r ⌝ }
-{
-    let none = no_move();
-    let everything = Touch {
-        all: true,
-        teams: teams_of(none, none),
-        first: none,
-        second: none,
-    };
-    let moved = walk(season, z, everything, home, away, meets, ledger, tally);
-    moved.gained
-}
-
-// Works out the constraints that one of two moves touches.
-pub fn rework(
-    season: &[u8],
-    z: Season,
-    first: Move,
-    second: Move,
-    home: &[u64; 32],
-    away: &[u64; 32],
-    meets: &[u64; 1024],
-    ledger: &mut [u32],
-    tally: &mut [u64],
-) -> Moved
-    requires { ⌜ Given (now season) z (now home) (now away) (now meets) (now ledger) (now tally) × Possible first × Possible second ⌝ }
-    ensures { λ r. ⌜ Reworked (decode (now (season .entry))) (byMoves (decode (now (season .entry))) first second)
-        (xOf (now (meets .entry))) (now (ledger .entry)) (now (tally .entry)) (now (ledger .exit)) (now (tally .exit)) r ⌝ }
-{
-    let moves = Touch {
-        all: false,
-        teams: teams_of(first, second),
-        first,
-        second,
-    };
-    walk(season, z, moves, home, away, meets, ledger, tally)
 }

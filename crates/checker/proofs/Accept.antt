@@ -11,29 +11,30 @@ use mathlib.Core.Logic.{_⊎_, inl, inr}
 use mathlib.Core.Bool.{or-true}
 use borrow.Author.Tests.{lt-leb, le-leb, le-ltb, lt-ltb, eq-eqb, ne-eqb, not-true, not-false}
 use Rattle.robinx.specs.Sums.{only, sumTo}
-use Rattle.robinx.specs.Season.{Instance, decode}
+use Rattle.robinx.specs.Season.{Instance, decode, mostTeams, mostSlots, mostGames}
 use Rattle.robinx.specs.Timetable.{clash}
 use Rattle.robinx.specs.Refusals.{firstTrue, sentence9, sentence10, sentence11, sentence12, sentence13}
-use Rattle.robinx.specs.Calls.{Call, moved, touched, reworked, unlessRefused, outcome}
+use Rattle.robinx.specs.Calls.{Buffers, buffers, Call, moved, touched, outcome}
 use Rattle.robinx.specs.declared.Reply.{Reply}
 use Rattle.robinx.specs.declared.Season.{Season}
 use Rattle.robinx.specs.PlainSheet.{plainFault}
 use Rattle.robinx.proofs.Sums.{or-no, term-le-sum}
 use Rattle.robinx.proofs.Passed.{Passed}
 use Rattle.robinx.proofs.Accepted.{length-moved, opens-again, low}
-use Rattle.robinx.proofs.Limits.{decode-home, decode-away}
-use Rattle.season.specs.Sizes.{sizesOf, Measured}
+use Rattle.robinx.proofs.Limits.{Sound, decode-home, decode-away}
+use Rattle.season.specs.Sizes.{Measured}
 use Rattle.season.proofs.Found.{measured}
-use Rattle.timetable.specs.Tables.{xOf, InRange, Fits, unplaced}
+use Rattle.timetable.specs.Tables.{Tables, xOf, InRange, Fits, unplaced}
 use Rattle.timetable.proofs.Fewer.{in-range-32}
 use Rattle.timetable.proofs.FirstGames.{unplaced-set, unplaced-low}
 use Rattle.books.specs.Touched.{Possible}
 use Rattle.books.specs.declared.touch.Move.{Move}
 use Rattle.books.specs.Walk.{Given}
-use Rattle.checker.specs.Admission.{Ready}
-use Rattle.checker.specs.Answer.{Answered, moveOf}
+use Rattle.books.specs.Answer.{Answered}
+use Rattle.checker.specs.Admission.{Ready, afterEntry}
+use Rattle.checker.specs.Moves.{moveOf}
 use Rattle.checker.proofs.Shown.{is-sound, whole, range, tied, same-deviations}
-use Rattle.checker.proofs.Outcomes.{ready-passed, reworked-is}
+use Rattle.checker.proofs.Outcomes.{Clean, ready-passed, reworked-is}
 
 -- the sheet after an accepted call passes sentences 1 to 8 too
 pub passes-again : (s sheet : List ℕ) (L T : ℕ) (k : Call) → Passed s sheet L T → plainFault (decode s) sheet k ≡ 0 → Passed s (moved sheet k) L T
@@ -48,40 +49,43 @@ passes-again s sheet L T k p e = record {
 }
 
 -- a call that passed sentences 1 to 8 may try its tables
-module _ {s sheet home away meets : List ℕ} {L T u : ℕ} (r : Ready s sheet L T u home away meets) where
-  pub range-32 : InRange 32 (decode s .home) (decode s .away) sheet
-  range-32 = in-range-32 (range s sheet L T (ready-passed r))
+module _ {s : List ℕ} {t : Tables} {b : Buffers} {z : Season} {u : ℕ} (r : Ready s b z u t) where
+  clean : Clean s b
+  clean = ready-passed r
+
+  pub range-32 : InRange mostTeams (decode s .home) (decode s .away) (b .sheet)
+  range-32 = in-range-32 (range s (b .sheet) (length (b .ledger)) (length (b .tally)) clean)
 
   pub as-many-games : length (decode s .home) ≡ decode s .G
-  as-many-games = decode-home s (ready-passed r .s3)
+  as-many-games = decode-home s (clean .s3)
 
   pub as-many-guests : length (decode s .away) ≡ decode s .G
-  as-many-guests = decode-away s (ready-passed r .s3)
+  as-many-guests = decode-away s (clean .s3)
 
-  pub as-many-slots : length sheet ≡ decode s .G
-  as-many-slots = whole s sheet L T (ready-passed r) .0
+  pub as-many-slots : length (b .sheet) ≡ decode s .G
+  as-many-slots = whole s (b .sheet) (length (b .ledger)) (length (b .tally)) clean .0
 
-  pub is-measured : {z : Season} → z ≡ sizesOf s → Measured s z
-  is-measured e = measured s e (ready-passed r .s3)
+  pub is-measured : Measured s z
+  is-measured = measured s (r .sizes) (clean .s3)
 
-  pub few-slots : decode s .P ≤ 64
-  few-slots = is-sound s sheet L T (ready-passed r) .slots
+  sizes-sound : Sound (decode s)
+  sizes-sound = is-sound s (b .sheet) (length (b .ledger)) (length (b .tally)) clean
 
-  pub few-games : decode s .G ≤ 1024
-  few-games = is-sound s sheet L T (ready-passed r) .games
+  pub few-slots : decode s .P ≤ mostSlots
+  few-slots = sizes-sound .slots
 
   -- a game that has no slot is among the unplaced ones
-  pub counted : {g : ℕ} → g < decode s .G → only (eqb (getD sheet g 0) 0) 1 ≤ u
-  counted {g} l = omega (arith, r .count, term-le-sum (λ h. only (eqb (getD sheet h 0) 0) 1) g (decode s .G) l)
+  pub counted : {g : ℕ} → g < decode s .G → only (eqb (getD (b .sheet) g 0) 0) 1 ≤ u
+  counted {g} l = omega (arith, r .count, term-le-sum (λ h. only (eqb (getD (b .sheet) h 0) 0) 1) g (decode s .G) l)
 
-  pub few-unplaced : u ≤ 1024
-  few-unplaced = omega (arith, r .count, unplaced-low sheet (decode s .G), few-games)
+  pub few-unplaced : u ≤ mostGames
+  few-unplaced = omega (arith, r .count, unplaced-low (b .sheet) (decode s .G), sizes-sound .games)
 
-  pub slot-possible : {g : ℕ} → g < decode s .G → getD sheet g 0 ≤ 64
+  pub slot-possible : {g : ℕ} → g < decode s .G → getD (b .sheet) g 0 ≤ mostSlots
   slot-possible {g} l = range-32 .slot-low g (omega (arith, as-many-games))
 
   pub move-possible : {v : Move} (g from to : ℕ) → v ≡ moveOf (decode s .home) (decode s .away) g from to
-      → g < decode s .G → from ≤ 64 → to ≤ 64 → Possible v
+      → g < decode s .G → from ≤ mostSlots → to ≤ mostSlots → Possible v
   move-possible g from to e l lf lt =
       let w = range-32 .teams in
       rw e (record {
@@ -91,28 +95,27 @@ module _ {s sheet home away meets : List ℕ} {L T u : ℕ} (r : Ready s sheet L
         to = lt;
       })
 
--- an accepted call: the tables are those of the sheet after it
-module _ {s sheet home away meets home′ away′ meets′ : List ℕ} (ledger tally : List ℕ) {u : ℕ} (k : Call)
-    (r : Ready s sheet (length ledger) (length tally) u home away meets) (e : plainFault (decode s) sheet k ≡ 0)
-    (f : Fits 32 true home′ away′ meets′ (decode s .home) (decode s .away) (moved sheet k)) where
-  again : Passed s (moved sheet k) (length ledger) (length tally)
-  again = passes-again s sheet (length ledger) (length tally) k (ready-passed r) e
+  -- an accepted call: the tables are those of the sheet after it
+  module _ {t′ : Tables} (k : Call) (e : plainFault (decode s) (b .sheet) k ≡ 0)
+      (f : Fits mostTeams true t′ (decode s .home) (decode s .away) (moved (b .sheet) k)) where
+    again : Passed s (moved (b .sheet) k) (length (b .ledger)) (length (b .tally))
+    again = passes-again s (b .sheet) (length (b .ledger)) (length (b .tally)) k clean e
 
-  pub given-after : {z : Season} → z ≡ sizesOf s → Given s z home′ away′ meets′ ledger tally
-  given-after ez = record {
-    measured = measured s ez (again .s3);
-    sizes = again .s2;
-    rules = again .s5;
-    tied = tied s (moved sheet k) (length ledger) (length tally) again f;
-    ledger-length = whole s (moved sheet k) (length ledger) (length tally) again .1;
-    tally-length = whole s (moved sheet k) (length ledger) (length tally) again .2;
-  }
+    pub given-after : Given s z t′ (b .ledger) (b .tally)
+    given-after = record {
+      measured = is-measured;
+      sizes = again .s2;
+      rules = again .s5;
+      tied = tied s (moved (b .sheet) k) (length (b .ledger)) (length (b .tally)) again f;
+      ledger-length = whole s (moved (b .sheet) k) (length (b .ledger)) (length (b .tally)) again .1;
+      tally-length = whole s (moved (b .sheet) k) (length (b .ledger)) (length (b .tally)) again .2;
+    }
 
-  pub call-is : {t : ℕ → Bool} {u′ : ℕ} {ledger′ tally′ : List ℕ} {a : Reply} → Answered (decode s) t (xOf meets′) u′ ledger tally ledger′ tally′ a
-      → t ≡ touched (decode s) sheet k → u′ ≡ unplaced (moved sheet k) (decode s .G)
-      → outcome a (moved sheet k) ledger′ tally′
-      ≡ unlessRefused (plainFault (decode s) sheet k) (reworked (decode s) sheet ledger tally k) sheet ledger tally
-  call-is w et eu = rw e (reworked-is sheet k w et (same-deviations s (moved sheet k) (length ledger) (length tally) again f) eu)
+    pub call-is : {touch : ℕ → Bool} {u′ : ℕ} {ledger′ tally′ : List ℕ} {a : Reply}
+        → Answered (decode s) touch (xOf (t′ .meets)) u′ (b .ledger) (b .tally) ledger′ tally′ a
+        → touch ≡ touched (decode s) (b .sheet) k → u′ ≡ unplaced (moved (b .sheet) k) (decode s .G)
+        → outcome a (buffers (moved (b .sheet) k) ledger′ tally′) ≡ afterEntry (decode s) b k
+    call-is w et eu = rw e (reworked-is b k w et (same-deviations s (moved (b .sheet) k) (length (b .ledger)) (length (b .tally)) again f) eu)
 
 module _ (m : Instance) (sheet : List ℕ) (g b : ℕ) where
   pub set-fault-9 : m .G ≤ g → plainFault m sheet (Call.setSlot g b) ≡ 9

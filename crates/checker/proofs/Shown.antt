@@ -7,7 +7,7 @@ use native.Mathlib.Omega.{arith}
 use lib.Dec.{eqb, ltb}
 use lib.ListN.{length, getD}
 use Rattle.robinx.specs.Sums.{anyTo, sumTo, only}
-use Rattle.robinx.specs.Season.{Instance, decode}
+use Rattle.robinx.specs.Season.{Instance, decode, mostTeams}
 use Rattle.robinx.specs.Timetable.{X}
 use Rattle.robinx.specs.Books.{timetable, deviationsAt, allEntries, verdict, total, isHard, isSoft}
 use Rattle.robinx.specs.Calls.{change}
@@ -20,7 +20,7 @@ use Rattle.robinx.proofs.Limits.{Sound, sound, decode-home, decode-away, total-
 use Rattle.robinx.proofs.Demand3.{lengths}
 use Rattle.season.specs.Sizes.{sizesOf, Measured}
 use Rattle.season.proofs.Found.{measured}
-use Rattle.timetable.specs.Tables.{xOf, Tied, Shows, InRange, Fits, unplaced}
+use Rattle.timetable.specs.Tables.{Tables, xOf, Tied, Shows, InRange, Fits, unplaced}
 use Rattle.timetable.proofs.Fewer.{shows-for}
 
 module _ (s sheet : List ℕ) (L T : ℕ) (p : Passed s sheet L T) where
@@ -51,20 +51,20 @@ module _ (s sheet : List ℕ) (L T : ℕ) (p : Passed s sheet L T) where
   pub totals-small : (want : Constraint → Bool) → total want m (timetable m sheet) < 2 ^ 60
   totals-small = total-small m is-sound (decode-home s (p .s3)) sheet (no-clash m sheet (whole .0) (p .s8))
 
-  module _ {home away meets : List ℕ} (fits : Fits 32 true home away meets (m .home) (m .away) sheet) where
-    shown : Shows (m .n) home away meets (m .home) (m .away) sheet
+  module _ {t : Tables} (fits : Fits mostTeams true t (m .home) (m .away) sheet) where
+    shown : Shows (m .n) t (m .home) (m .away) sheet
     shown = shows-for (m .n) (m .home) (m .away) sheet range (fits .shows refl)
 
-    pub tied : Tied (m .n) home away meets
+    pub tied : Tied (m .n) t
     tied = shown .tied
 
     -- every constraint has the same deviations by the tables and by the sheet
-    pub same-deviations : deviationsAt m (xOf meets) ≡ deviationsAt m (timetable m sheet)
+    pub same-deviations : deviationsAt m (xOf (t .meets)) ≡ deviationsAt m (timetable m sheet)
     same-deviations = λ i c. each c i
       where
-        each : (c : ℕ) → deviationsAt m (xOf meets) c ≡ deviationsAt m (timetable m sheet) c
+        each : (c : ℕ) → deviationsAt m (xOf (t .meets)) c ≡ deviationsAt m (timetable m sheet) c
         each c =
-            agreement (m .n) (m .P) (xOf meets) (timetable m sheet) (m .constraint c)
+            agreement (m .n) (m .P) (xOf (t .meets)) (timetable m sheet) (m .constraint c)
             (λ i j k li lj lk r. shown .x i j k li lj (omega (arith, is-sound .slots)))
 
 -- the verdict by a count of the unplaced games

@@ -3,8 +3,9 @@ pub mod admission;
 pub mod calls;
 
 ghost use mathlib.Core.Path.{_≡_};
-ghost use Rattle.robinx.specs.Calls.{outcome, openCall, setCall, exchangeCall};
+ghost use Rattle.robinx.specs.Calls.{buffers, outcome, openCall, setCall, exchangeCall};
 use robinx::Reply;
+use robinx::Season;
 
 // Checks a proposed sheet and fills ledger and tally.
 #[no_mangle]
@@ -14,17 +15,17 @@ pub extern "C" fn season_open(
     ledger: &mut [u32],
     tally: &mut [u64],
 ) -> Reply
-    ensures { λ r. ⌜ outcome r (now (sheet .entry)) (now (ledger .exit)) (now (tally .exit))
-        ≡ openCall (now (season .entry)) (now (sheet .entry)) (now (ledger .entry)) (now (tally .entry)) ⌝ }
+    ensures { λ r. ⌜ outcome r (buffers (now (sheet .entry)) (now (ledger .exit)) (now (tally .exit)))
+        ≡ openCall (now (season .entry)) (buffers (now (sheet .entry)) (now (ledger .entry)) (now (tally .entry))) ⌝ }
 {
-    let mut home = [0u64; 32];
-    let mut away = [0u64; 32];
-    let mut meets = [0u64; 1024];
+    let mut home = [0u64; Season::TEAMS];
+    let mut away = [0u64; Season::TEAMS];
+    let mut meets = [0u64; Season::PLACES];
     let a = admission::admit(
         season,
         sheet,
-        ledger.len(),
-        tally.len(),
+        &*ledger,
+        &*tally,
         &mut home,
         &mut away,
         &mut meets,
@@ -32,9 +33,9 @@ pub extern "C" fn season_open(
     if a.fault != 0 {
         return calls::declined(a.fault);
     }
-    calls::open(
+    books::open(
         season,
-        sheet,
+        a.sizes,
         a.unplaced,
         &home,
         &away,
@@ -54,17 +55,17 @@ pub extern "C" fn season_set(
     game: u64,
     slot: u64,
 ) -> Reply
-    ensures { λ r. ⌜ outcome r (now (sheet .exit)) (now (ledger .exit)) (now (tally .exit))
-        ≡ setCall (now (season .entry)) (now (sheet .entry)) (now (ledger .entry)) (now (tally .entry)) game slot ⌝ }
+    ensures { λ r. ⌜ outcome r (buffers (now (sheet .exit)) (now (ledger .exit)) (now (tally .exit)))
+        ≡ setCall (now (season .entry)) (buffers (now (sheet .entry)) (now (ledger .entry)) (now (tally .entry))) game slot ⌝ }
 {
-    let mut home = [0u64; 32];
-    let mut away = [0u64; 32];
-    let mut meets = [0u64; 1024];
+    let mut home = [0u64; Season::TEAMS];
+    let mut away = [0u64; Season::TEAMS];
+    let mut meets = [0u64; Season::PLACES];
     let a = admission::admit(
         season,
         &*sheet,
-        ledger.len(),
-        tally.len(),
+        &*ledger,
+        &*tally,
         &mut home,
         &mut away,
         &mut meets,
@@ -74,6 +75,7 @@ pub extern "C" fn season_set(
     }
     calls::set(
         season,
+        a.sizes,
         sheet,
         a.unplaced,
         &mut home,
@@ -96,17 +98,17 @@ pub extern "C" fn season_exchange(
     game: u64,
     other: u64,
 ) -> Reply
-    ensures { λ r. ⌜ outcome r (now (sheet .exit)) (now (ledger .exit)) (now (tally .exit))
-        ≡ exchangeCall (now (season .entry)) (now (sheet .entry)) (now (ledger .entry)) (now (tally .entry)) game other ⌝ }
+    ensures { λ r. ⌜ outcome r (buffers (now (sheet .exit)) (now (ledger .exit)) (now (tally .exit)))
+        ≡ exchangeCall (now (season .entry)) (buffers (now (sheet .entry)) (now (ledger .entry)) (now (tally .entry))) game other ⌝ }
 {
-    let mut home = [0u64; 32];
-    let mut away = [0u64; 32];
-    let mut meets = [0u64; 1024];
+    let mut home = [0u64; Season::TEAMS];
+    let mut away = [0u64; Season::TEAMS];
+    let mut meets = [0u64; Season::PLACES];
     let a = admission::admit(
         season,
         &*sheet,
-        ledger.len(),
-        tally.len(),
+        &*ledger,
+        &*tally,
         &mut home,
         &mut away,
         &mut meets,
@@ -116,6 +118,7 @@ pub extern "C" fn season_exchange(
     }
     calls::exchange(
         season,
+        a.sizes,
         sheet,
         a.unplaced,
         &mut home,

@@ -9,6 +9,7 @@ use lib.Bits.{or-lt}
 use lib.ListN.{length, getD, set}
 use lib.Seq.{getD-set-same, getD-set-other}
 use borrow.Author.Count.{below-more}
+use Rattle.robinx.specs.Season.{mostSlots, slotsOf}
 use Rattle.robinx.specs.Sums.{sumTo, only}
 use Rattle.robinx.specs.Groups.{bit, has}
 use Rattle.robinx.specs.Timetable.{X, homeSide, gamesWith, gamesAgainst, between, gamesBetween}
@@ -17,11 +18,12 @@ use Rattle.robinx.proofs.Sums.{sum-zero, sum-swap, sum-bound, only-le}
 use Rattle.robinx.proofs.Ext.{sum-ext}
 use Rattle.robinx.specs.declared.Constraint.{Constraint}
 use Rattle.robinx.proofs.Filled.{filled-one}
-use Rattle.masks.proofs.Bits.{or-has, none-bit, bit-lt}
+use Rattle.robinx.proofs.Bits.{or-has, none-bit, bit-lt}
+use Rattle.timetable.specs.Tables.{Tables}
 use Rattle.figures.specs.Figures.{Ready}
 use Rattle.figures.specs.Games.{MaskOf}
-use Rattle.figures.specs.Between.{Given, guests, hosts, MasksOf}
-use Rattle.figures.proofs.Ready.{limits, over-slots}
+use Rattle.figures.specs.Between.{guests, hosts, MasksOf}
+use Rattle.figures.proofs.Ready.{over-slots}
 
 only-has : (b : Bool) (m k : ℕ) → has (only b m) k ≡ b && has m k
 only-has true m k = refl
@@ -61,13 +63,13 @@ over-sum P S f n =
 
 -- all counted games in S
 pub hosted-over : (n : ℕ) (x : X) (d T1 T2 S : ℕ)
-    → sumTo (λ i. over 64 S (hosts n x d T1 T2 i)) n ≡ over 64 S (gamesBetween n x d T1 T2)
+    → sumTo (λ i. over mostSlots S (hosts n x d T1 T2 i)) n ≡ over mostSlots S (gamesBetween n x d T1 T2)
 unfolding gamesBetween hosts
-hosted-over n x d T1 T2 S = sym (over-sum 64 S (hosts n x d T1 T2) n)
+hosted-over n x d T1 T2 S = sym (over-sum mostSlots S (hosts n x d T1 T2) n)
 
-pub count-le : (m S : ℕ) → over 64 S (bit m) ≤ 64
+pub count-le : (m S : ℕ) → over mostSlots S (bit m) ≤ mostSlots
 unfolding over
-count-le m S = omega (arith, sum-bound {f = λ k. only (has S k) (bit m k)} 64 1 (λ k l. omega (arith, only-le (has S k) (bit m k), bit-lt m k)))
+count-le m S = omega (arith, sum-bound {f = λ k. only (has S k) (bit m k)} mostSlots 1 (λ k l. omega (arith, only-le (has S k) (bit m k), bit-lt m k)))
 
 -- .. and per slot
 pub masks-none : (f : ℕ → ℕ → ℕ) (words : List ℕ) → MasksOf f words 0
@@ -82,17 +84,14 @@ masks-more {f} {words} {i} m l h new = record {
 }
 
 pub columns-between : (n : ℕ) (x : X) (d T1 T2 : ℕ) {words : List ℕ} → MasksOf (hosts n x d T1 T2) words n
-    → (k : ℕ) → k < 64 → sumTo (λ i. bit (getD words i 0) k) n ≡ gamesBetween n x d T1 T2 k
+    → (k : ℕ) → k < mostSlots → sumTo (λ i. bit (getD words i 0) k) n ≡ gamesBetween n x d T1 T2 k
 unfolding gamesBetween hosts
 columns-between n x d T1 T2 h k l = sum-ext n (λ i li. h .mask i li k l)
 
 -- The constraint's own groups.
-module _ {n P : ℕ} {c : Constraint} {home away meets out : List ℕ} (r : Ready n P c home away meets out) where
-  pub given : Given n (c .t1) (c .t2) home away meets
-  given = record { teams = r .teams; one = limits r .t1; other = limits r .t2; tied = r .tied }
-
+module _ {n P : ℕ} {c : Constraint} {ts : Tables} {out : List ℕ} (r : Ready n P c ts out) where
   pub one-figure : (x : X) (d : ℕ) {g v : ℕ} → length out ≡ 1
-      → g ≡ over 64 (c .s) (gamesBetween n x d (c .t1) (c .t2)) → v ≡ outside (c .kmin) (c .kmax) g
-      → set out 0 v ≡ outside (c .kmin) (c .kmax) (over P (c .s) (gamesBetween n x d (c .t1) (c .t2))) ∷ []
+      → g ≡ over mostSlots (slotsOf c) (gamesBetween n x d (c .t1) (c .t2)) → v ≡ outside (c .kmin) (c .kmax) g
+      → set out 0 v ≡ outside (c .kmin) (c .kmax) (over P (slotsOf c) (gamesBetween n x d (c .t1) (c .t2))) ∷ []
   one-figure x d {g} {v} l e f =
       filled-one out v l ∙ ap (λ (w : ℕ). w ∷ []) (f ∙ ap (outside (c .kmin) (c .kmax)) (e ∙ over-slots r _))

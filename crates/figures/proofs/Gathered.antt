@@ -1,65 +1,44 @@
--- The union of the words of a group's members, from one member to the next. Assumes nothing.
+-- The union of the words of a group's members, one member after the other. Assumes nothing.
 use mathlib.Core.Path.{_≡_}
 use mathlib.Core.List.{List}
 use mathlib.Core.Bool.{true, false}
-use Prim.Native.Nat.{ℕ, _+_, _*_, _/_, _^_, _<_, _≤_}
+use Prim.Native.Nat.{ℕ, _+_, _*_, _<_, _^_}
 use native.Mathlib.Omega.{arith}
-use native.Mathlib.Nat.{add-mul, mul-le-mul-right}
 use lib.Bits.{bitOr}
-use lib.Count.{trailingZeros}
 use lib.ListN.{getD}
+use Rattle.robinx.specs.Season.{mostTeams}
 use Rattle.robinx.specs.Sums.{maxTo}
 use Rattle.robinx.specs.Groups.{has}
 use Rattle.robinx.proofs.Sums.{max-step}
-use Rattle.masks.proofs.Bits.{or-bit, none-bit}
+use Rattle.robinx.proofs.Bits.{or-bit, none-bit}
+use Rattle.groups.specs.declared.Members.{Members}
+use Rattle.groups.specs.Walk.{Ahead, From, Step}
+use Rattle.groups.proofs.Walk.{to-next, to-end}
 use Rattle.figures.specs.Games.{Union}
-use Rattle.figures.proofs.Members.{Ahead, ahead-group, Next, next, to-next, to-end}
 
--- the members below `seen` had their turn, and at is the place of the word of `seen`
-pub record Gathered (l : List ℕ) (T base step u at rest : ℕ) : Type 0 where
-  pub seen : ℕ
-  pub ahead : Ahead 32 T seen rest
-  pub place : at ≡ base + seen * step
-  pub union : Union l T base step seen u
+-- u is the union of the words of the members passed
+pub record UnionPassed (l : List ℕ) (T base step : ℕ) (m : Members) (u : ℕ) : Type 0 where
+  pub ahead : Ahead mostTeams T m
+  pub union : Union l T base step (m .at) u
 
 module _ (l : List ℕ) (T base step : ℕ) where
-  joins : (j u : ℕ) → has T j ≡ true → Union l T base step j u → Union l T base step (j + 1) (bitOr u (getD l (base + j * step) 0))
-  joins j u e old k = rw (max-step, e, ← old k) (or-bit u (getD l (base + j * step) 0) k)
-
   passes : (u j : ℕ) → has T j ≡ false → Union l T base step j u → Union l T base step (j + 1) u
   passes u j e old k = rw (max-step, e, ← old k) (omega arith)
 
-  pub gathered-none : T < 2 ^ 32 → Gathered l T base step 0 base T
+  joins : (u j : ℕ) → has T j ≡ true → Union l T base step j u → Union l T base step (j + 1) (bitOr u (getD l (base + j * step) 0))
+  joins u j e old k = rw (max-step, e, ← old k) (or-bit u (getD l (base + j * step) 0) k)
+
+module _ {l : List ℕ} {T base step : ℕ} {m : Members} where
+  pub union-start : From T 0 m → T < 2 ^ mostTeams → UnionPassed l T base step m 0
   unfolding maxTo
-  gathered-none h = record { seen = 0; ahead = ahead-group 32 T h; place = omega arith; union = none-bit }
+  union-start s h = record { ahead = s .ahead mostTeams (omega arith) h (omega arith); union = rw (s .place) none-bit }
 
-module _ {l : List ℕ} {T base step u at rest : ℕ} (g : Gathered l T base step u at rest) where
-  pub gathered-all : rest ≡ 0 → Union l T base step 32 u
-  gathered-all = to-end (λ j. Union l T base step j u) (passes l T base step u) (g .union) (g .ahead)
+  module _ {u : ℕ} (w : UnionPassed l T base step m u) where
+    pub union-turn : {r : Members} → Step m r → UnionPassed l T base step r (bitOr u (getD l (base + r .team * step) 0))
+    union-turn {r} s =
+        let x = s mostTeams T (w .ahead) in
+        let old = to-next (λ j. Union l T base step j u) (passes l T base step u) (w .union) x in
+        record { ahead = x .ahead; union = rw (x .past) (joins l T base step u (r .team) (x .member) old) }
 
-  module _ (n : rest ≡ 0 → ⊥) where
-    abbrev z : ℕ
-    z = trailingZeros 32 rest
-
-    member : Next 32 T (g .seen) z (rest / 2 ^ z / 2)
-    member = next (g .ahead) 32 (omega arith) n
-
-    word : at + z * step ≡ base + (g .seen + z) * step
-    word = omega (arith, g .place, add-mul (g .seen) z step)
-
-    pub gathered-room : (z < 32) × (at + z * step ≤ base + 31 * step)
-    gathered-room =
-        let x = member in
-        let l : g .seen + z ≤ 31 = omega arith in (omega arith, omega (arith, word, mul-le-mul-right step l))
-
-    pub gathered-more : Gathered l T base step (bitOr u (getD l (at + z * step) 0)) (at + z * step + step) (rest / 2 ^ z / 2)
-    gathered-more =
-        let x = member in
-        let j = g .seen + z in
-        let old = to-next (λ i. Union l T base step i u) (passes l T base step u) (g .union) x in
-        record {
-          seen = j + 1;
-          ahead = x .ahead;
-          place = omega (arith, word, add-mul j 1 step);
-          union = rw word (joins l T base step j u (x .member) old);
-        }
+    pub union-end : m .rest ≡ 0 → Union l T base step mostTeams u
+    union-end = to-end (λ j. Union l T base step j u) (passes l T base step u) (w .union) (w .ahead)

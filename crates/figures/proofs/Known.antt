@@ -1,4 +1,4 @@
--- The kind of a constraint that keeps the rules is one of the ten, so its class and what it is not tell it. Assumes nothing.
+-- The kind of a constraint that keeps the rules is one of the ten. Assumes nothing.
 use mathlib.Core.Path.{_≡_, sym, ap, _∙_}
 use mathlib.Core.List.{List}
 use Prim.Native.Nat.{ℕ, _<_, _≤_}
@@ -8,15 +8,15 @@ use Rattle.robinx.specs.Deviations.{deviationsOf, deviations}
 use Rattle.robinx.specs.declared.Constraint.{Constraint}
 use Rattle.robinx.proofs.Limits.{known}
 use Rattle.robinx.proofs.Unknown.{NoKind, unknown-kind}
-use Rattle.timetable.specs.Tables.{xOf}
+use Rattle.timetable.specs.Tables.{Tables, xOf}
 use Rattle.figures.specs.Figures.{Ready}
 use Rattle.figures.proofs.Ready.{limits}
 
-module _ {n P : ℕ} {c : Constraint} {home away meets out : List ℕ} (r : Ready n P c home away meets out) where
+module _ {n P : ℕ} {c : Constraint} {ts : Tables} {out : List ℕ} (r : Ready n P c ts out) where
   -- the deviations of the kind with number k
-  pub of-number : {l : List ℕ} (k : ℕ) → c .kind ≡ k → l ≡ deviationsOf (kindOf k) n P c (xOf meets) → l ≡ deviations n P c (xOf meets)
+  pub of-number : {l : List ℕ} (k : ℕ) → c .kind ≡ k → l ≡ deviationsOf (kindOf k) n P c (xOf (ts .meets)) → l ≡ deviations n P c (xOf (ts .meets))
   unfolding deviations
-  of-number k e p = p ∙ ap (λ (k : ℕ). deviationsOf (kindOf k) n P c (xOf meets)) (sym e)
+  of-number k e p = p ∙ ap (λ (k : ℕ). deviationsOf (kindOf k) n P c (xOf (ts .meets))) (sym e)
 
   pub no-other : NoKind (c .kind) → ⊥
   no-other h = known (limits r) (unknown-kind (c .kind) h)
@@ -24,17 +24,8 @@ module _ {n P : ℕ} {c : Constraint} {home away meets out : List ℕ} (r : Read
   between : (low high : ℕ) → (c .kind < low → NoKind (c .kind)) → (high < c .kind → NoKind (c .kind)) → (low ≤ c .kind) × (c .kind ≤ high)
   between low high below above = (by-contra low (c .kind) (λ l. no-other (below l)), by-contra (c .kind) high (λ l. no-other (above l)))
 
-  pub CA1-to-CA3 : 10 ≤ c .kind → c .kind ≤ 19 → (c .kind ≡ 14 → ⊥) → (11 ≤ c .kind) × (c .kind ≤ 13)
-  CA1-to-CA3 a b other = between 11 13 (λ l. omega arith) (λ l. omega arith)
-
   pub GA1-alone : 20 ≤ c .kind → c .kind ≤ 29 → c .kind ≡ 21
   GA1-alone a b = let k = between 21 21 (λ l. omega arith) (λ l. omega arith) in omega arith
-
-  pub BR2-else : 30 ≤ c .kind → c .kind ≤ 39 → (c .kind ≡ 31 → ⊥) → c .kind ≡ 32
-  BR2-else a b other = let k = between 32 32 (λ l. omega arith) (λ l. omega arith) in omega arith
-
-  pub FA2-else : 40 ≤ c .kind → c .kind ≤ 49 → (c .kind ≡ 41 → ⊥) → c .kind ≡ 42
-  FA2-else a b other = let k = between 42 42 (λ l. omega arith) (λ l. omega arith) in omega arith
 
   pub SE1-alone : 50 ≤ c .kind → c .kind ≤ 59 → c .kind ≡ 51
   SE1-alone a b = let k = between 51 51 (λ l. omega arith) (λ l. omega arith) in omega arith

@@ -2,7 +2,6 @@ pub mod Ready
 pub mod Known
 pub mod Between
 pub mod Games
-pub mod Members
 pub mod Gathered
 pub mod Meetings
 pub mod TeamFigures

@@ -3,21 +3,29 @@ use mathlib.Core.Path.{_≡_, ap, _∙_}
 use mathlib.Core.List.{List}
 use Prim.Native.Nat.{ℕ}
 use lib.ListN.{length}
-use Rattle.robinx.specs.Kinds.{Kind, kindOf}
-use Rattle.robinx.specs.Deviations.{over, entriesOf, entries}
+use Rattle.robinx.specs.Season.{mostSlots, slotsOf}
+use Rattle.robinx.specs.Kinds.{Kind, kindOf, formOf, formAt}
+use Rattle.robinx.specs.Deviations.{over, inShape, entries}
 use Rattle.robinx.specs.declared.Constraint.{Constraint}
 use Rattle.robinx.proofs.Limits.{Obeys, obeyed}
 use Rattle.masks.proofs.Width.{over-stop}
-use Rattle.figures.specs.Figures.{Ready}
+use Rattle.timetable.specs.Tables.{Tables}
+use Rattle.figures.specs.Figures.{Ready, Given}
 
-module _ {n P : ℕ} {c : Constraint} {home away meets out : List ℕ} (r : Ready n P c home away meets out) where
+module _ {n P : ℕ} {c : Constraint} {ts : Tables} {out : List ℕ} (r : Ready n P c ts out) where
   pub limits : Obeys n P c
   limits = obeyed n P c (r .rules)
 
-  pub places-of : {k : Kind} → kindOf (c .kind) ≡ k → length out ≡ entriesOf k n P c
-  unfolding entries
-  places-of e = r .places ∙ ap (λ (k : Kind). entriesOf k n P c) e
+  pub given-t1 : Given n (c .t1) ts
+  given-t1 = record { teams = r .teams; group = limits .t1; tied = r .tied }
+
+  pub given-t2 : Given n (c .t2) ts
+  given-t2 = record { teams = r .teams; group = limits .t2; tied = r .tied }
+
+  pub places-of : {k : Kind} → kindOf (c .kind) ≡ k → length out ≡ inShape (formOf k .shape) n P c
+  unfolding entries formAt
+  places-of e = r .places ∙ ap (λ (k : Kind). inShape (formOf k .shape) n P c) e
 
   -- S has no slot from P on
-  pub over-slots : (f : ℕ → ℕ) → over 64 (c .s) f ≡ over P (c .s) f
-  over-slots f = over-stop P 64 (r .slots) (c .s) f (limits .s)
+  pub over-slots : (f : ℕ → ℕ) → over mostSlots (slotsOf c) f ≡ over P (slotsOf c) f
+  over-slots f = over-stop P mostSlots (r .slots) (slotsOf c) f (limits .s)

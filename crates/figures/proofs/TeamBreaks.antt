@@ -1,13 +1,13 @@
 -- A team's breaks by the masks of its home games and its away games. Assumes that the tables are tied.
 use mathlib.Core.Path.{_≡_, refl, sym, ap, ap₂, _∙_}
 use mathlib.Core.Bool.{Bool, true, false, _&&_}
-use mathlib.Core.List.{List}
 use Prim.Native.Nat.{ℕ, _+_, _^_, _<_, _≤_}
 use native.Mathlib.Omega.{arith}
 use native.Mathlib.Nat.{add-zero, zero-add}
 use lib.Bits.{bitOr}
 use lib.Dec.{eqb, ltb}
 use lib.ListN.{getD}
+use Rattle.robinx.specs.Season.{mostSlots, slotsOf}
 use Rattle.robinx.specs.Sums.{only}
 use Rattle.robinx.specs.Groups.{bit, has}
 use Rattle.robinx.specs.Timetable.{side, homeSide, awaySide, anySide, gamesWith, gamesIn, plays, breakOn, breaksIn}
@@ -16,9 +16,9 @@ use Rattle.robinx.specs.declared.Constraint.{Constraint}
 use Rattle.robinx.proofs.Sums.{only-bound, only-le, sum-add, sum-zero, sum-bound}
 use Rattle.robinx.proofs.Ext.{sum-ext, over-ext, lastWas-ext}
 use Rattle.masks.specs.Masks.{isBreak}
-use Rattle.masks.proofs.Bits.{at-bits}
+use Rattle.robinx.proofs.Bits.{at-bits}
 use Rattle.masks.proofs.Width.{over-stop}
-use Rattle.timetable.specs.Tables.{Tied, xOf}
+use Rattle.timetable.specs.Tables.{Tables, Tied, xOf}
 use Rattle.figures.specs.Games.{MaskOf}
 use Rattle.figures.proofs.Games.{sides-mask}
 
@@ -48,50 +48,50 @@ over-asked P S false q = sum-zero P (λ k l. only-none (has S k))
 some : (m k : ℕ) → ltb 0 (bit m k) ≡ has m k
 some m k = at-bits (λ x y. ltb 0 x ≡ eqb x 1) refl refl refl refl m m k
 
-module _ {n : ℕ} {home away meets : List ℕ} (tied : Tied n home away meets) (t : ℕ) (lt : t < n) where
+module _ {n : ℕ} {ts : Tables} (tied : Tied n ts) (t : ℕ) (lt : t < n) where
   abbrev h : ℕ
-  h = getD home t 0
+  h = getD (ts .home) t 0
 
   abbrev a : ℕ
-  a = getD away t 0
+  a = getD (ts .away) t 0
 
-  home-mask : MaskOf (gamesIn n (xOf meets) homeSide t) h
+  home-mask : MaskOf (gamesIn n (xOf (ts .meets)) homeSide t) h
   unfolding gamesIn gamesWith
-  home-mask k l = tied .home-row t k lt l ∙ sum-ext n (λ j lj. sym (add-zero (xOf meets t j k)))
+  home-mask k l = tied .home-row t k lt l ∙ sum-ext n (λ j lj. sym (add-zero (xOf (ts .meets) t j k)))
 
-  away-mask : MaskOf (gamesIn n (xOf meets) awaySide t) a
+  away-mask : MaskOf (gamesIn n (xOf (ts .meets)) awaySide t) a
   unfolding gamesIn gamesWith
-  away-mask k l = tied .away-row t k lt l ∙ sum-ext n (λ j lj. sym (zero-add (xOf meets j t k)))
+  away-mask k l = tied .away-row t k lt l ∙ sum-ext n (λ j lj. sym (zero-add (xOf (ts .meets) j t k)))
 
-  module _ (d m : ℕ) (mask : MaskOf (gamesIn n (xOf meets) d t) m) where
-    plays-mask : (k : ℕ) → k < 64 → plays n (xOf meets) d t k ≡ has m k
+  module _ (d m : ℕ) (mask : MaskOf (gamesIn n (xOf (ts .meets)) d t) m) where
+    plays-mask : (k : ℕ) → k < mostSlots → plays n (xOf (ts .meets)) d t k ≡ has m k
     unfolding plays
     plays-mask k l = ap (ltb 0) (sym (mask k l)) ∙ some m k
 
   -- the breaks of one side
-  break-mask : (d m : ℕ) → MaskOf (gamesIn n (xOf meets) d t) m → (k : ℕ) → k < 64
-      → isBreak m (bitOr h a) k ≡ breakOn n (xOf meets) d t k
+  break-mask : (d m : ℕ) → MaskOf (gamesIn n (xOf (ts .meets)) d t) m → (k : ℕ) → k < mostSlots
+      → isBreak m (bitOr h a) k ≡ breakOn n (xOf (ts .meets)) d t k
   unfolding breakOn
   break-mask d m mask k l =
       sym (ap₂ _&&_ (plays-mask d m mask k l)
       (lastWas-ext k (λ b lb. plays-mask anySide (bitOr h a) (sides-mask tied anySide t lt) b (omega arith))
       (λ b lb. plays-mask d m mask b (omega arith))))
 
-  side-breaks : (P S d m : ℕ) (asked : Bool) → P ≤ 64 → S < 2 ^ P → MaskOf (gamesIn n (xOf meets) d t) m
-      → only asked (over 64 S (λ k. only (isBreak m (bitOr h a) k) 1)) ≡ over P S (λ k. only (asked && breakOn n (xOf meets) d t k) 1)
+  side-breaks : (P S d m : ℕ) (asked : Bool) → P ≤ mostSlots → S < 2 ^ P → MaskOf (gamesIn n (xOf (ts .meets)) d t) m
+      → only asked (over mostSlots S (λ k. only (isBreak m (bitOr h a) k) 1)) ≡ over P S (λ k. only (asked && breakOn n (xOf (ts .meets)) d t k) 1)
   side-breaks P S d m asked lp ls mask =
       ap (only asked)
-      (over-stop P 64 lp S _ ls
+      (over-stop P mostSlots lp S _ ls
       ∙ over-ext P S (λ k lk s. ap (λ (b : Bool). only b 1) (break-mask d m mask k (omega arith))))
-      ∙ sym (over-asked P S asked (breakOn n (xOf meets) d t))
+      ∙ sym (over-asked P S asked (breakOn n (xOf (ts .meets)) d t))
 
-  pub team-breaks : (P : ℕ) (c : Constraint) → P ≤ 64 → c .s < 2 ^ P
-      → only (has (side (c .mode)) 0) (over 64 (c .s) (λ k. only (isBreak h (bitOr h a) k) 1))
-      + only (has (side (c .mode)) 1) (over 64 (c .s) (λ k. only (isBreak a (bitOr h a) k) 1))
-      ≡ breaks n P c (xOf meets) t
+  pub team-breaks : (P : ℕ) (c : Constraint) → P ≤ mostSlots → slotsOf c < 2 ^ P
+      → only (has (side (c .mode)) 0) (over mostSlots (slotsOf c) (λ k. only (isBreak h (bitOr h a) k) 1))
+      + only (has (side (c .mode)) 1) (over mostSlots (slotsOf c) (λ k. only (isBreak a (bitOr h a) k) 1))
+      ≡ breaks n P c (xOf (ts .meets)) t
   unfolding breaks breaksIn
   team-breaks P c lp ls =
       ap₂ _+_
-      (side-breaks P (c .s) homeSide h (has (side (c .mode)) 0) lp ls home-mask)
-      (side-breaks P (c .s) awaySide a (has (side (c .mode)) 1) lp ls away-mask)
-      ∙ sym (over-add P (c .s) _ _)
+      (side-breaks P (slotsOf c) homeSide h (has (side (c .mode)) 0) lp ls home-mask)
+      (side-breaks P (slotsOf c) awaySide a (has (side (c .mode)) 1) lp ls away-mask)
+      ∙ sym (over-add P (slotsOf c) _ _)

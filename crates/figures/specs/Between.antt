@@ -1,22 +1,13 @@
 -- Games between two groups, by the team at whose venue they are.
 use mathlib.Core.List.{List}
 use mathlib.Core.Bool.{_&&_}
-use mathlib.Core.Path.{_≡_}
-use Prim.Native.Nat.{ℕ, _^_, _<_, _≤_}
+use Prim.Native.Nat.{ℕ, _<_}
 use lib.Bits.{bitOr}
 use lib.ListN.{getD}
 use Rattle.robinx.specs.Sums.{sumTo, only}
 use Rattle.robinx.specs.Groups.{has}
 use Rattle.robinx.specs.Timetable.{X, between}
-use Rattle.timetable.specs.Tables.{Tied}
 use Rattle.figures.specs.Games.{MaskOf}
-
--- the tables are tied, and the groups have no teams but the n
-pub record Given (n T1 T2 : ℕ) (home away meets : List ℕ) : Type 0 where
-  pub teams : n ≤ 32
-  pub one : T1 < 2 ^ n
-  pub other : T2 < 2 ^ n
-  pub tied : Tied n home away meets
 
 -- the teams that team i hosts in a game that is counted
 abbrev pub guests : ℕ → ℕ → ℕ → ℕ → ℕ

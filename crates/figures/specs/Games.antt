@@ -6,15 +6,17 @@ use Prim.Native.Nat.{ℕ, suc, _+_, _-_, _*_, _^_, _<_}
 use lib.Bits.{bitOr}
 use lib.Dec.{eqb}
 use lib.ListN.{length, getD}
+use Rattle.robinx.specs.Season.{mostSlots, slotsOf}
 use Rattle.robinx.specs.Sums.{sumTo, maxTo, only}
 use Rattle.robinx.specs.Groups.{bit, has}
 use Rattle.robinx.specs.Timetable.{X, side, gamesAgainst}
 use Rattle.robinx.specs.Deviations.{over, outside, inRun}
 use Rattle.robinx.specs.declared.Constraint.{Constraint}
+use Rattle.masks.specs.Rows.{places}
 
 -- the mask's bits are f
 abbrev pub MaskOf : (ℕ → ℕ) → ℕ → Type 0
-MaskOf f m = (k : ℕ) → k < 64 → bit m k ≡ f k
+MaskOf f m = (k : ℕ) → k < mostSlots → bit m k ≡ f k
 
 -- of a mask of home games and one of away games those of the sides d
 abbrev pub ofSides : ℕ → ℕ → ℕ → ℕ
@@ -34,23 +36,20 @@ UnionIf b l T base step n m = (k : ℕ) → bit m k ≡ only b (inUnion l T base
 
 -- The deviation of a team with f k games in slot k: of the games in S, or of those in each run, summed.
 abbrev pub offCount : ℕ → Constraint → (ℕ → ℕ) → ℕ
-offCount P c f = outside (c .kmin) (c .kmax) (over P (c .s) f)
+offCount P c f = outside (c .kmin) (c .kmax) (over P (slotsOf c) f)
 
 abbrev pub offRuns : ℕ → Constraint → (ℕ → ℕ) → ℕ
 offRuns P c f = sumTo (λ a. outside (c .kmin) (c .kmax) (inRun f (c .w) a)) (suc P - c .w)
 
 -- a table for running counts from place 1 on: the count before the first slot, at place 0, is 0
 pub record FromZero (rows : List ℕ) : Type 0 where
-  pub long : length rows ≡ 2048
+  pub long : length rows ≡ places
   pub first : getD rows 0 0 ≡ 0
 
 -- the teams against which games count: all in CA1, else T2
 abbrev pub rivals : ℕ → Constraint → ℕ
 rivals n c = cond (eqb (c .kind) 11) (2 ^ n - 1) (c .t2)
 
--- the deviation of team t: CA3 counts runs
-abbrev pub teamFigure : ℕ → ℕ → Constraint → X → ℕ → ℕ
-teamFigure n P c x t =
-    cond (eqb (c .kind) 13)
-    (offRuns P c (gamesAgainst n x (side (c .mode)) (rivals n c) t))
-    (offCount P c (gamesAgainst n x (side (c .mode)) (rivals n c) t))
+-- the games of team t that count, in slot k
+abbrev pub counted : ℕ → Constraint → X → ℕ → ℕ → ℕ
+counted n c x t = gamesAgainst n x (side (c .mode)) (rivals n c) t

@@ -1,46 +1,60 @@
 // FA1 and FA2: running counts of games, and how far two of them are apart. The counts are rows of one table, laid once.
-// The loops go from one team of the group to the next.
 ghost use mathlib.Core.Path.{_≡_};
 ghost use mathlib.Core.Bool.{true};
-ghost use Prim.Native.Nat.{ℕ, _+_, _*_, _-_, _<_, _≤_, _^_};
+ghost use Prim.Native.Nat.{_+_, _*_, _-_, _<_, _≤_, _^_};
 ghost use lib.ListN.{length};
+ghost use Rattle.robinx.specs.Season.{mostTeams, mostSlots};
 ghost use Rattle.robinx.specs.Groups.{has, size, pairs};
 ghost use Rattle.robinx.specs.Deviations.{each, eachPair, devFA1, devFA2};
 ghost use Rattle.robinx.proofs.Filled.{FilledRows};
-ghost use Rattle.timetable.specs.Tables.{xOf};
-ghost use Rattle.masks.specs.Rows.{laidAt};
-ghost use Rattle.figures.specs.Figures.{Ready};
-ghost use Rattle.figures.specs.Running.{Counting, running, Counted, rowsApart, sidesApart};
+ghost use Rattle.timetable.specs.Tables.{tables, xOf};
+ghost use Rattle.masks.specs.Rows.{places, laidAt};
+ghost use Rattle.figures.specs.Figures.{Ready, Given};
+ghost use Rattle.figures.specs.Running.{running, Counted, rowsApart, sidesApart};
 use crate::measure::less;
 use crate::measure::mode_sides;
 use crate::opponents::against;
-use masks::front;
+use groups::Members;
 use robinx::Constraint;
+use robinx::Season;
 
 // The running counts of a team's games of the sides against the group, as row r of the table.
 fn lay_games(
     sides: u8,
     group: u32,
     n: usize,
-    home: &[u64; 32],
-    away: &[u64; 32],
-    meets: &[u64; 1024],
+    home: &[u64; Season::TEAMS],
+    away: &[u64; Season::TEAMS],
+    meets: &[u64; Season::PLACES],
     t: usize,
-    rows: &mut [u8; 2048],
+    rows: &mut [u8; masks::PLACES],
     r: usize,
 )
-    requires { ⌜ (t < n) × (r < 32) × Counting n group (now home) (now away) (now meets) ⌝ }
-    ensures { λ _. ⌜ now (rows .exit) ≡ laidAt (now (rows .entry)) (r * 64) (running n (xOf (now (meets .entry))) sides group t) 64 ⌝ }
+    requires { ⌜ (t < n) × (r < mostTeams) × Given n group (tables (now home) (now away) (now meets)) ⌝ }
+    ensures { λ _. ⌜ now (rows .exit) ≡ laidAt (now (rows .entry)) (r * mostSlots) (running n (xOf (now (meets .entry))) sides group t) mostSlots ⌝ }
 {
-    masks::lay_at(against(meets, home, away, sides, group, t, n), rows, r * 64);
+    masks::lay_at(
+        against(meets, home, away, sides, group, t, n),
+        rows,
+        r * Season::SLOTS,
+    );
 }
 
 // How far rows i and j are apart in the slots that e marks, less kmax.
-fn rows_apart(rows: &[u8; 2048], e: &[u8; 64], kmax: u8, i: usize, j: usize) -> u32
-    requires { ⌜ (i < 32) × (j < 32) ⌝ }
+fn rows_apart(
+    rows: &[u8; masks::PLACES],
+    e: &[u8; Season::SLOTS],
+    kmax: u8,
+    i: usize,
+    j: usize,
+) -> u32
+    requires { ⌜ (i < mostTeams) × (j < mostTeams) ⌝ }
     ensures { λ r. ⌜ r ≡ rowsApart (now (rows .entry)) (now (e .entry)) kmax i j ⌝ }
 {
-    less(masks::farthest(rows, i * 64, j * 64, e) as u32, kmax as u32)
+    less(
+        masks::farthest(rows, i * Season::SLOTS, j * Season::SLOTS, e) as u32,
+        kmax as u32,
+    )
 }
 
 // FA1's figure of a team. Its counts are laid as the table's first two rows.
@@ -48,16 +62,16 @@ fn imbalance(
     group: u32,
     kmax: u8,
     n: usize,
-    home: &[u64; 32],
-    away: &[u64; 32],
-    meets: &[u64; 1024],
-    e: &[u8; 64],
-    rows: &mut [u8; 2048],
+    home: &[u64; Season::TEAMS],
+    away: &[u64; Season::TEAMS],
+    meets: &[u64; Season::PLACES],
+    e: &[u8; Season::SLOTS],
+    rows: &mut [u8; masks::PLACES],
     t: usize,
 ) -> u32
-    requires { ⌜ (t < n) × (length (now rows) ≡ 2048) × Counting n group (now home) (now away) (now meets) ⌝ }
+    requires { ⌜ (t < n) × (length (now rows) ≡ places) × Given n group (tables (now home) (now away) (now meets)) ⌝ }
     ensures { λ r. ⌜ (r ≡ sidesApart n (xOf (now (meets .entry))) group (now (e .entry)) kmax t)
-        × (length (now (rows .exit)) ≡ 2048) ⌝ }
+        × (length (now (rows .exit)) ≡ places) ⌝ }
 {
     lay_games(1, group, n, home, away, meets, t, rows, 0);
     lay_games(2, group, n, home, away, meets, t, rows, 1);
@@ -68,26 +82,22 @@ fn fill_teams(
     group: u32,
     kmax: u8,
     n: usize,
-    home: &[u64; 32],
-    away: &[u64; 32],
-    meets: &[u64; 1024],
-    e: &[u8; 64],
-    rows: &mut [u8; 2048],
+    home: &[u64; Season::TEAMS],
+    away: &[u64; Season::TEAMS],
+    meets: &[u64; Season::PLACES],
+    e: &[u8; Season::SLOTS],
+    rows: &mut [u8; masks::PLACES],
     out: &mut [u32],
 )
-    requires { ⌜ (length (now rows) ≡ 2048) × (length (now out) ≡ size n group) × Counting n group (now home) (now away) (now meets) ⌝ }
+    requires { ⌜ (length (now rows) ≡ places) × (length (now out) ≡ size n group) × Given n group (tables (now home) (now away) (now meets)) ⌝ }
     ensures { λ _. ⌜ now (out .exit) ≡ each n group (sidesApart n (xOf (now (meets .entry))) group (now (e .entry)) kmax) ⌝ }
 {
     let mut at: usize = 0;
-    let mut t: usize = 0;
-    let mut rest = group;
-    while rest != 0 {
-        let z = u32::trailing_zeros(rest);
-        t += z as usize;
-        out[at] = imbalance(group, kmax, n, home, away, meets, e, rows, t);
+    let mut m = Members::of(group);
+    while m.rest != 0 {
+        m = m.next();
+        out[at] = imbalance(group, kmax, n, home, away, meets, e, rows, m.team);
         at += 1;
-        rest = (rest >> z) >> 1;
-        t += 1;
     }
 }
 
@@ -96,17 +106,17 @@ pub fn fill_fa1(
     c: Constraint,
     n: usize,
     p: usize,
-    home: &[u64; 32],
-    away: &[u64; 32],
-    meets: &[u64; 1024],
+    home: &[u64; Season::TEAMS],
+    away: &[u64; Season::TEAMS],
+    meets: &[u64; Season::PLACES],
     out: &mut [u32],
 )
-    requires { ⌜ Ready n p c (now home) (now away) (now meets) (now out) × (c .kind ≡ 41) ⌝ }
+    requires { ⌜ Ready n p c (tables (now home) (now away) (now meets)) (now out) × (c .kind ≡ 41) ⌝ }
     ensures { λ _. ⌜ now (out .exit) ≡ devFA1 n p c (xOf (now (meets .entry))) ⌝ }
 {
-    let mut e = [0u8; 64];
+    let mut e = [0u8; Season::SLOTS];
     masks::spread(c.s, &mut e);
-    let mut rows = [0u8; 2048];
+    let mut rows = [0u8; masks::PLACES];
     fill_teams(c.t1, c.kmax, n, home, away, meets, &e, &mut rows, out);
 }
 
@@ -115,22 +125,18 @@ fn lay_teams(
     sides: u8,
     group: u32,
     n: usize,
-    home: &[u64; 32],
-    away: &[u64; 32],
-    meets: &[u64; 1024],
-    rows: &mut [u8; 2048],
+    home: &[u64; Season::TEAMS],
+    away: &[u64; Season::TEAMS],
+    meets: &[u64; Season::PLACES],
+    rows: &mut [u8; masks::PLACES],
 )
-    requires { ⌜ (length (now rows) ≡ 2048) × Counting n group (now home) (now away) (now meets) ⌝ }
+    requires { ⌜ (length (now rows) ≡ places) × Given n group (tables (now home) (now away) (now meets)) ⌝ }
     ensures { λ _. ⌜ Counted n (xOf (now (meets .entry))) sides group (now (rows .exit)) n ⌝ }
 {
-    let mut t: usize = 0;
-    let mut rest = group;
-    while rest != 0 {
-        let z = u32::trailing_zeros(rest);
-        t += z as usize;
-        lay_games(sides, group, n, home, away, meets, t, rows, t);
-        rest = (rest >> z) >> 1;
-        t += 1;
+    let mut m = Members::of(group);
+    while m.rest != 0 {
+        m = m.next();
+        lay_games(sides, group, n, home, away, meets, m.team, rows, m.team);
     }
 }
 
@@ -139,42 +145,41 @@ fn fill_row(
     group: u32,
     kmax: u8,
     n: usize,
-    rows: &[u8; 2048],
-    e: &[u8; 64],
+    rows: &[u8; masks::PLACES],
+    e: &[u8; Season::SLOTS],
     i: usize,
     at: usize,
     out: &mut [u32],
 ) -> usize
-    requires { ⌜ (n ≤ 32) × (i < n) × (has group i ≡ true) × FilledRows n group (rowsApart (now rows) (now e) kmax) i at (now out) ⌝ }
+    requires { ⌜ (n ≤ mostTeams) × (group < 2 ^ n) × (i < n) × (has group i ≡ true) × FilledRows n group (rowsApart (now rows) (now e) kmax) i at (now out) ⌝ }
     ensures { λ r. ⌜ FilledRows n group (rowsApart (now (rows .entry)) (now (e .entry)) kmax) (i + 1) r (now (out .exit)) ⌝ }
 {
     let mut next = at;
-    let mut j = i + 1;
-    let mut rest = (front(group as u64, n as u64) >> i) >> 1;
-    while rest != 0 {
-        let z = u64::trailing_zeros(rest);
-        j += z as usize;
-        out[next] = rows_apart(rows, e, kmax, i, j);
+    let mut m = Members::above(group, i);
+    while m.rest != 0 {
+        m = m.next();
+        out[next] = rows_apart(rows, e, kmax, i, m.team);
         next += 1;
-        rest = (rest >> z) >> 1;
-        j += 1;
     }
     next
 }
 
-fn fill_pairs(group: u32, kmax: u8, n: usize, rows: &[u8; 2048], e: &[u8; 64], out: &mut [u32])
-    requires { ⌜ (n ≤ 32) × (length (now out) ≡ pairs n group) ⌝ }
+fn fill_pairs(
+    group: u32,
+    kmax: u8,
+    n: usize,
+    rows: &[u8; masks::PLACES],
+    e: &[u8; Season::SLOTS],
+    out: &mut [u32],
+)
+    requires { ⌜ (n ≤ mostTeams) × (group < 2 ^ n) × (length (now out) ≡ pairs n group) ⌝ }
     ensures { λ _. ⌜ now (out .exit) ≡ eachPair n group (rowsApart (now (rows .entry)) (now (e .entry)) kmax) ⌝ }
 {
     let mut at: usize = 0;
-    let mut i: usize = 0;
-    let mut rest = front(group as u64, n as u64);
-    while rest != 0 {
-        let z = u64::trailing_zeros(rest);
-        i += z as usize;
-        at = fill_row(group, kmax, n, rows, e, i, at, out);
-        rest = (rest >> z) >> 1;
-        i += 1;
+    let mut m = Members::of(group);
+    while m.rest != 0 {
+        m = m.next();
+        at = fill_row(group, kmax, n, rows, e, m.team, at, out);
     }
 }
 
@@ -183,17 +188,17 @@ pub fn fill_fa2(
     c: Constraint,
     n: usize,
     p: usize,
-    home: &[u64; 32],
-    away: &[u64; 32],
-    meets: &[u64; 1024],
+    home: &[u64; Season::TEAMS],
+    away: &[u64; Season::TEAMS],
+    meets: &[u64; Season::PLACES],
     out: &mut [u32],
 )
-    requires { ⌜ Ready n p c (now home) (now away) (now meets) (now out) × (c .kind ≡ 42) ⌝ }
+    requires { ⌜ Ready n p c (tables (now home) (now away) (now meets)) (now out) × (c .kind ≡ 42) ⌝ }
     ensures { λ _. ⌜ now (out .exit) ≡ devFA2 n p c (xOf (now (meets .entry))) ⌝ }
 {
-    let mut e = [0u8; 64];
+    let mut e = [0u8; Season::SLOTS];
     masks::spread(c.s, &mut e);
-    let mut rows = [0u8; 2048];
+    let mut rows = [0u8; masks::PLACES];
     lay_teams(mode_sides(c.mode), c.t1, n, home, away, meets, &mut rows);
     fill_pairs(c.t1, c.kmax, n, &rows, &e, out);
 }

@@ -1,29 +1,31 @@
 // BR1 and BR2: the breaks of each team, and of all teams of the group together.
 ghost use mathlib.Core.Path.{_≡_};
 ghost use mathlib.Core.Bool.{true};
-ghost use Prim.Native.Nat.{_≤_, _<_};
-ghost use lib.ListN.{length};
+ghost use Prim.Native.Nat.{_*_, _≤_, _<_};
+ghost use Rattle.robinx.specs.Season.{mostTeams, mostSlots};
 ghost use Rattle.robinx.specs.Sums.{sumTo, only};
 ghost use Rattle.robinx.specs.Groups.{has};
 ghost use Rattle.robinx.specs.Timetable.{firstModes};
 ghost use Rattle.robinx.specs.Rules.{obeys};
 ghost use Rattle.robinx.specs.Deviations.{over, offTarget, breaks, devBR1, devBR2};
 ghost use Rattle.masks.specs.Masks.{Within, isBreak};
-ghost use Rattle.timetable.specs.Tables.{Tied, xOf};
+ghost use Rattle.timetable.specs.Tables.{tables, Tied, xOf};
 ghost use Rattle.figures.specs.Figures.{Ready};
 use crate::measure::asks_away;
 use crate::measure::asks_home;
 use crate::measure::first_modes;
 use crate::measure::less;
 use crate::measure::mode_sides;
+use groups::Members;
 use masks::breaks_in;
 use masks::union;
 use robinx::Constraint;
+use robinx::Season;
 
 // The breaks of a side in the slots of s, where it is asked for.
 fn breaks_if(asked: bool, side: u64, all: u64, s: u64) -> u32
     requires { ⌜ Within side all ⌝ }
-    ensures { λ r. ⌜ (r ≡ only asked (over 64 s (λ k. only (isBreak side all k) 1))) × (r ≤ 64) ⌝ }
+    ensures { λ r. ⌜ (r ≡ only asked (over mostSlots s (λ k. only (isBreak side all k) 1))) × (r ≤ mostSlots) ⌝ }
 {
     if asked { breaks_in(side, all, s) } else { 0 }
 }
@@ -33,13 +35,13 @@ fn team_breaks(
     c: Constraint,
     n: usize,
     p: usize,
-    home: &[u64; 32],
-    away: &[u64; 32],
-    meets: &[u64; 1024],
+    home: &[u64; Season::TEAMS],
+    away: &[u64; Season::TEAMS],
+    meets: &[u64; Season::PLACES],
     t: usize,
 ) -> u32
-    requires { ⌜ (n ≤ 32) × (p ≤ 64) × (t < n) × (obeys n p c ≡ true) × Tied n (now home) (now away) (now meets) ⌝ }
-    ensures { λ r. ⌜ (r ≡ breaks n p c (xOf (now (meets .entry))) t) × (r ≤ 128) ⌝ }
+    requires { ⌜ (n ≤ mostTeams) × (p ≤ mostSlots) × (t < n) × (obeys n p c ≡ true) × Tied n (tables (now home) (now away) (now meets)) ⌝ }
+    ensures { λ r. ⌜ (r ≡ breaks n p c (xOf (now (meets .entry))) t) × (r ≤ 2 * mostSlots) ⌝ }
 {
     let h = home[t];
     let a = away[t];
@@ -64,24 +66,24 @@ pub fn fill_breaks(
     c: Constraint,
     n: usize,
     p: usize,
-    home: &[u64; 32],
-    away: &[u64; 32],
-    meets: &[u64; 1024],
+    home: &[u64; Season::TEAMS],
+    away: &[u64; Season::TEAMS],
+    meets: &[u64; Season::PLACES],
     out: &mut [u32],
 )
-    requires { ⌜ Ready n p c (now home) (now away) (now meets) (now out) × (c .kind ≡ 31) ⌝ }
+    requires { ⌜ Ready n p c (tables (now home) (now away) (now meets)) (now out) × (c .kind ≡ 31) ⌝ }
     ensures { λ _. ⌜ now (out .exit) ≡ devBR1 n p c (xOf (now (meets .entry))) ⌝ }
 {
     let mut e = 0;
-    let mut t: usize = 0;
-    let mut rest = c.t1;
-    while rest != 0 {
-        let z = u32::trailing_zeros(rest);
-        t += z as usize;
-        out[e] = off_target(c.mode, c.kmax, team_breaks(c, n, p, home, away, meets, t));
+    let mut m = Members::of(c.t1);
+    while m.rest != 0 {
+        m = m.next();
+        out[e] = off_target(
+            c.mode,
+            c.kmax,
+            team_breaks(c, n, p, home, away, meets, m.team),
+        );
         e += 1;
-        rest = (rest >> z) >> 1;
-        t += 1;
     }
 }
 
@@ -90,22 +92,18 @@ fn group_breaks(
     c: Constraint,
     n: usize,
     p: usize,
-    home: &[u64; 32],
-    away: &[u64; 32],
-    meets: &[u64; 1024],
+    home: &[u64; Season::TEAMS],
+    away: &[u64; Season::TEAMS],
+    meets: &[u64; Season::PLACES],
 ) -> u32
-    requires { ⌜ (n ≤ 32) × (p ≤ 64) × (obeys n p c ≡ true) × Tied n (now home) (now away) (now meets) ⌝ }
+    requires { ⌜ (n ≤ mostTeams) × (p ≤ mostSlots) × (obeys n p c ≡ true) × Tied n (tables (now home) (now away) (now meets)) ⌝ }
     ensures { λ r. ⌜ r ≡ sumTo (λ t. only (has (c .t1) t) (breaks n p c (xOf (now (meets .entry))) t)) n ⌝ }
 {
     let mut v: u32 = 0;
-    let mut t: usize = 0;
-    let mut rest = c.t1;
-    while rest != 0 {
-        let z = u32::trailing_zeros(rest);
-        t += z as usize;
-        v += team_breaks(c, n, p, home, away, meets, t);
-        rest = (rest >> z) >> 1;
-        t += 1;
+    let mut m = Members::of(c.t1);
+    while m.rest != 0 {
+        m = m.next();
+        v += team_breaks(c, n, p, home, away, meets, m.team);
     }
     v
 }
@@ -115,12 +113,12 @@ pub fn fill_all_breaks(
     c: Constraint,
     n: usize,
     p: usize,
-    home: &[u64; 32],
-    away: &[u64; 32],
-    meets: &[u64; 1024],
+    home: &[u64; Season::TEAMS],
+    away: &[u64; Season::TEAMS],
+    meets: &[u64; Season::PLACES],
     out: &mut [u32],
 )
-    requires { ⌜ Ready n p c (now home) (now away) (now meets) (now out) × (c .kind ≡ 32) ⌝ }
+    requires { ⌜ Ready n p c (tables (now home) (now away) (now meets)) (now out) × (c .kind ≡ 32) ⌝ }
     ensures { λ _. ⌜ now (out .exit) ≡ devBR2 n p c (xOf (now (meets .entry))) ⌝ }
 {
     out[0] = off_target(c.mode, c.kmax, group_breaks(c, n, p, home, away, meets));

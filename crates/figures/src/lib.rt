@@ -2,7 +2,7 @@
 pub mod measure; // measure.rt: modes, and how far a count is off
 pub mod opponents; // opponents.rt: the slots of a team's games against a group
 pub mod counts; // counts.rt: CA1, CA2, CA3
-pub mod groups; // groups.rt: games between two groups (CA4, GA1)
+pub mod across; // across.rt: games between two groups (CA4, GA1)
 pub mod breaks; // breaks.rt: BR1, BR2
 pub mod balance; // balance.rt: running counts of home and away games (FA1) and of two teams (FA2)
 pub mod separation; // separation.rt: SE1
@@ -10,27 +10,31 @@ pub mod separation; // separation.rt: SE1
 ghost use mathlib.Core.Path.{_≡_};
 ghost use Prim.Native.Nat.{_≤_};
 ghost use Rattle.robinx.specs.Deviations.{deviations};
-ghost use Rattle.timetable.specs.Tables.{xOf};
+ghost use Rattle.timetable.specs.Tables.{tables, xOf};
 ghost use Rattle.figures.specs.Figures.{Ready};
 use robinx::Constraint;
+use robinx::Season;
 
 // Capacity: CA1 to CA4.
 fn fill_capacity(
     c: Constraint,
     n: usize,
     p: usize,
-    home: &[u64; 32],
-    away: &[u64; 32],
-    meets: &[u64; 1024],
+    home: &[u64; Season::TEAMS],
+    away: &[u64; Season::TEAMS],
+    meets: &[u64; Season::PLACES],
     out: &mut [u32],
 )
-    requires { ⌜ Ready n p c (now home) (now away) (now meets) (now out) × (10 ≤ c .kind) × (c .kind ≤ 19) ⌝ }
+    requires { ⌜ Ready n p c (tables (now home) (now away) (now meets)) (now out) × (10 ≤ c .kind) × (c .kind ≤ 19) ⌝ }
     ensures { λ _. ⌜ now (out .exit) ≡ deviations n p c (xOf (now (meets .entry))) ⌝ }
 {
-    if c.kind == 14 {
-        groups::fill_ca4(c, n, p, home, away, meets, out);
-    } else {
-        counts::fill_counts(c, n, p, home, away, meets, out);
+    let kind = c.kind;
+    match kind {
+        11 => counts::fill_counts(c, n, p, home, away, meets, out),
+        12 => counts::fill_counts(c, n, p, home, away, meets, out),
+        13 => counts::fill_runs(c, n, p, home, away, meets, out),
+        14 => across::fill_ca4(c, n, p, home, away, meets, out),
+        _ => {}
     }
 }
 
@@ -39,18 +43,19 @@ fn fill_break(
     c: Constraint,
     n: usize,
     p: usize,
-    home: &[u64; 32],
-    away: &[u64; 32],
-    meets: &[u64; 1024],
+    home: &[u64; Season::TEAMS],
+    away: &[u64; Season::TEAMS],
+    meets: &[u64; Season::PLACES],
     out: &mut [u32],
 )
-    requires { ⌜ Ready n p c (now home) (now away) (now meets) (now out) × (30 ≤ c .kind) × (c .kind ≤ 39) ⌝ }
+    requires { ⌜ Ready n p c (tables (now home) (now away) (now meets)) (now out) × (30 ≤ c .kind) × (c .kind ≤ 39) ⌝ }
     ensures { λ _. ⌜ now (out .exit) ≡ deviations n p c (xOf (now (meets .entry))) ⌝ }
 {
-    if c.kind == 31 {
-        breaks::fill_breaks(c, n, p, home, away, meets, out);
-    } else {
-        breaks::fill_all_breaks(c, n, p, home, away, meets, out);
+    let kind = c.kind;
+    match kind {
+        31 => breaks::fill_breaks(c, n, p, home, away, meets, out),
+        32 => breaks::fill_all_breaks(c, n, p, home, away, meets, out),
+        _ => {}
     }
 }
 
@@ -59,18 +64,19 @@ fn fill_fairness(
     c: Constraint,
     n: usize,
     p: usize,
-    home: &[u64; 32],
-    away: &[u64; 32],
-    meets: &[u64; 1024],
+    home: &[u64; Season::TEAMS],
+    away: &[u64; Season::TEAMS],
+    meets: &[u64; Season::PLACES],
     out: &mut [u32],
 )
-    requires { ⌜ Ready n p c (now home) (now away) (now meets) (now out) × (40 ≤ c .kind) × (c .kind ≤ 49) ⌝ }
+    requires { ⌜ Ready n p c (tables (now home) (now away) (now meets)) (now out) × (40 ≤ c .kind) × (c .kind ≤ 49) ⌝ }
     ensures { λ _. ⌜ now (out .exit) ≡ deviations n p c (xOf (now (meets .entry))) ⌝ }
 {
-    if c.kind == 41 {
-        balance::fill_fa1(c, n, p, home, away, meets, out);
-    } else {
-        balance::fill_fa2(c, n, p, home, away, meets, out);
+    let kind = c.kind;
+    match kind {
+        41 => balance::fill_fa1(c, n, p, home, away, meets, out),
+        42 => balance::fill_fa2(c, n, p, home, away, meets, out),
+        _ => {}
     }
 }
 
@@ -79,21 +85,21 @@ pub fn fill(
     c: Constraint,
     n: usize,
     p: usize,
-    home: &[u64; 32],
-    away: &[u64; 32],
-    meets: &[u64; 1024],
+    home: &[u64; Season::TEAMS],
+    away: &[u64; Season::TEAMS],
+    meets: &[u64; Season::PLACES],
     out: &mut [u32],
 )
-    requires { ⌜ Ready n p c (now home) (now away) (now meets) (now out) ⌝ }
+    requires { ⌜ Ready n p c (tables (now home) (now away) (now meets)) (now out) ⌝ }
     ensures { λ _. ⌜ now (out .exit) ≡ deviations n p c (xOf (now (meets .entry))) ⌝ }
 {
     let kind = c.kind;
     match kind {
         10..=19 => fill_capacity(c, n, p, home, away, meets, out),
-        20..=29 => groups::fill_ga1(c, n, p, home, away, meets, out),
+        20..=29 => across::fill_ga1(c, n, p, home, away, meets, out),
         30..=39 => fill_break(c, n, p, home, away, meets, out),
         40..=49 => fill_fairness(c, n, p, home, away, meets, out),
-        50..=59 => separation::fill_separation(c, n, p, meets, out),
+        50..=59 => separation::fill_separation(c, n, p, home, away, meets, out),
         _ => {}
     }
 }

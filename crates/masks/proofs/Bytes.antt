@@ -11,7 +11,7 @@ use Rattle.robinx.specs.Groups.{bit}
 use Rattle.robinx.proofs.Sums.{sum-bound}
 use Rattle.robinx.proofs.Ext.{sum-ext}
 use Rattle.masks.specs.Rows.{upTo, packed, byte}
-use Rattle.masks.proofs.Bits.{bit-lt, shift-bit, mod-bit}
+use Rattle.robinx.proofs.Bits.{bit-lt, shift-bit, mod-bit}
 use Rattle.masks.proofs.Rows.{sum-split}
 
 -- below n, f is a byte

@@ -16,7 +16,7 @@ use Rattle.robinx.specs.Timetable.{lastWas}
 use Rattle.robinx.proofs.Sums.{only-le}
 use Rattle.robinx.proofs.Ext.{lastWas-ext}
 use Rattle.masks.specs.Masks.{Within, isBreak}
-use Rattle.masks.proofs.Bits.{at-bits, and-bit, or-bit, half-bit, mod-bit}
+use Rattle.robinx.proofs.Bits.{at-bits, and-bit, or-bit, half-bit, mod-bit}
 
 -- bits of the complement
 comp-bit : (k K w : ℕ) → k < K → w < 2 ^ K → bit (2 ^ K - 1 - w) k ≡ 1 - bit w k

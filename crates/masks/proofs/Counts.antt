@@ -10,7 +10,7 @@ use Rattle.robinx.specs.Groups.{bit, has, size}
 use Rattle.robinx.specs.Deviations.{over}
 use Rattle.robinx.proofs.Ext.{sum-ext}
 use Rattle.robinx.proofs.Sizes.{only-bit, size-ones}
-use Rattle.masks.proofs.Bits.{and-has}
+use Rattle.robinx.proofs.Bits.{and-has}
 
 both-only : (a b : Bool) → only (a && b) 1 ≡ only b (only a 1)
 both-only true true = refl

@@ -1,6 +1,4 @@
-pub mod Bits
 pub mod OneSlot
-pub mod Unions
 pub mod Width
 pub mod Counts
 pub mod Carry

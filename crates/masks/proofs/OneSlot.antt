@@ -10,7 +10,7 @@ use borrow.Author.Tests.{eqb-true, eqb-false, eq-eqb, ne-eqb}
 use Rattle.robinx.specs.Sums.{only}
 use Rattle.robinx.specs.Groups.{bit}
 use Rattle.masks.specs.Masks.{joined, without}
-use Rattle.masks.proofs.Bits.{at-bits, bit-lt, or-bit, xor-bit, one-bit}
+use Rattle.robinx.proofs.Bits.{at-bits, bit-lt, or-bit, xor-bit, one-bit}
 
 module _ (m k : ℕ) where
   joined-max : (a : ℕ) → bit (joined m k) a ≡ max (bit m a) (only (eqb a k) 1)

@@ -10,12 +10,13 @@ use lib.Dec.{eqb}
 use lib.ListN.{getD, set, length, length-set, drop, length-drop}
 use lib.Seq.{getD-set-same, getD-set-other, getD-drop, drop-set-add}
 use borrow.Author.Count.{below-none, below-more}
+use Rattle.robinx.specs.Season.{mostSlots}
 use Rattle.robinx.specs.Sums.{sumTo, maxTo, only, dist}
 use Rattle.robinx.specs.Groups.{bit, has}
 use Rattle.robinx.specs.Deviations.{worst, outside, inRun}
 use Rattle.robinx.proofs.Ext.{sum-ext, max-ext}
 use Rattle.masks.specs.Rows.{Holds, marked, laid, HoldsAt, upTo, laidAt, farthestTo, runsTo}
-use Rattle.masks.proofs.Bits.{at-bits}
+use Rattle.robinx.proofs.Bits.{at-bits}
 use Rattle.masks.proofs.Width.{worst-stop}
 
 -- one place more
@@ -48,7 +49,7 @@ sum-split f a zero = rw (add-zero a) (omega arith)
 sum-split f a (suc w) = rw (add-suc a w) (omega (arith, sum-split f a w))
 
 -- the increases of a row of counts are the counts of the runs
-pub runs-of : (row : List ℕ) (v w low high n : ℕ) → n ≤ 65 - w → Holds row (sumTo (bit v)) 65
+pub runs-of : (row : List ℕ) (v w low high n : ℕ) → n ≤ mostSlots + 1 - w → Holds row (sumTo (bit v)) (mostSlots + 1)
     → runsTo row w low high n ≡ sumTo (λ a. outside low high (inRun (bit v) w a)) n
 unfolding runsTo inRun
 runs-of row v w low high n l h =
@@ -89,12 +90,13 @@ laidAt-ext rows a zero h = refl
 laidAt-ext rows a (suc n) h = ap₂ (λ (l : List ℕ) (v : ℕ). set l (a + n) v) (laidAt-ext rows a n (λ k l. h k (omega arith))) (h n (omega arith))
 
 -- a row of counts, behind a 0: the counts before each place
-pub counts-before : (rows : List ℕ) (v : ℕ) → 65 ≤ length rows → getD rows 0 0 ≡ 0 → Holds (laidAt rows 1 (upTo v) 64) (sumTo (bit v)) 65
+pub counts-before : (rows : List ℕ) (v : ℕ) → mostSlots + 1 ≤ length rows → getD rows 0 0 ≡ 0
+    → Holds (laidAt rows 1 (upTo v) mostSlots) (sumTo (bit v)) (mostSlots + 1)
 unfolding sumTo
-counts-before rows v l e zero lk = laidAt-other rows 1 (upTo v) 64 0 (λ k lk e. omega arith) ∙ e
+counts-before rows v l e zero lk = laidAt-other rows 1 (upTo v) mostSlots 0 (λ k lk e. omega arith) ∙ e
 counts-before rows v l e (suc k) lk =
     let i : suc k ≡ 1 + k = omega arith in
-    ap (λ (i : ℕ). getD (laidAt rows 1 (upTo v) 64) i 0) i ∙ laidAt-holds rows 1 (upTo v) 64 (omega arith) k (omega arith)
+    ap (λ (i : ℕ). getD (laidAt rows 1 (upTo v) mostSlots) i 0) i ∙ laidAt-holds rows 1 (upTo v) mostSlots (omega arith) k (omega arith)
 
 -- a row that is laid in two parts
 pub laidAt-on : (rows : List ℕ) (a k : ℕ) (f g : ℕ → ℕ) (n : ℕ) → ((j : ℕ) → j < n → g j ≡ f (k + j))
@@ -115,12 +117,12 @@ up-to-mark : (S k d : ℕ) → d ≤ 255 → min (marked S k) d ≡ only (has S 
 up-to-mark S k d h =
     at-bits (λ s t. min (s * 255) d ≡ only (eqb s 1) d) (omega arith) (omega arith) (omega arith) (omega arith) S S k
 
-pub farthest-of : (e : List ℕ) (f g : ℕ → ℕ) (S P : ℕ) → S < 2 ^ P → P ≤ 64 → Holds e (marked S) 64
-    → ((k : ℕ) → k < 64 → dist (f k) (g k) ≤ 255) → farthestTo e f g 64 ≡ worst P S (λ k. dist (f k) (g k))
+pub farthest-of : (e : List ℕ) (f g : ℕ → ℕ) (S P : ℕ) → S < 2 ^ P → P ≤ mostSlots → Holds e (marked S) mostSlots
+    → ((k : ℕ) → k < mostSlots → dist (f k) (g k) ≤ 255) → farthestTo e f g mostSlots ≡ worst P S (λ k. dist (f k) (g k))
 unfolding farthestTo worst
 farthest-of e f g S P h l he small =
-    max-ext 64 (λ k lk. ap (λ (m : ℕ). min m (dist (f k) (g k))) (he k lk) ∙ up-to-mark S k (dist (f k) (g k)) (small k lk))
-    ∙ worst-stop P 64 l S (λ k. dist (f k) (g k)) h
+    max-ext mostSlots (λ k lk. ap (λ (m : ℕ). min m (dist (f k) (g k))) (he k lk) ∙ up-to-mark S k (dist (f k) (g k)) (small k lk))
+    ∙ worst-stop P mostSlots l S (λ k. dist (f k) (g k)) h
 
 -- the largest of f less c is the largest f, less c
 only-less : (t : Bool) (v c : ℕ) → only t (v - c) ≡ only t v - c

@@ -1,87 +1,30 @@
--- Walking the set bits of a mask from the lowest on: the places passed over change nothing. Assumes nothing.
+-- The closeness of a mask's games, from one set bit to the next: the slots passed over change nothing. Assumes nothing.
 use mathlib.Core.Path.{_≡_, refl, sym, ap, _∙_}
-use mathlib.Core.Bool.{Bool, true, false}
-use Prim.Native.Nat.{ℕ, zero, suc, _+_, _-_, _*_, _/_, _%_, _^_, _<_, _≤_}
+use mathlib.Core.Bool.{Bool}
+use Prim.Native.Nat.{ℕ, _+_, _-_, _*_, _/_, _^_, _<_, _≤_}
 use native.Mathlib.Omega.{arith}
 use native.Mathlib.Numerals.{add-one}
-use native.Mathlib.Nat.{pow-suc, div-one}
-use lib.Dec.{eqb, ltb}
-use lib.Pow.{shr-shr, shr-le}
-use lib.Count.{trailingZeros, under}
+use lib.Dec.{ltb}
+use lib.Count.{trailingZeros}
+use Rattle.robinx.specs.Season.{mostSlots}
 use Rattle.robinx.specs.Sums.{only, sumTo}
-use Rattle.robinx.specs.Groups.{bit, has}
+use Rattle.robinx.specs.Groups.{has}
 use Rattle.robinx.specs.Timetable.{lastSlot}
 use Rattle.robinx.specs.Deviations.{tooClose}
 use Rattle.robinx.proofs.Ext.{sum-ext, lastSlot-ext}
+use Rattle.robinx.proofs.SetBits.{Turn, turn, first-turn, none-left}
+use Rattle.robinx.proofs.Stops.{stop}
 use borrow.Author.Tests.{lt-ltb}
-use Rattle.masks.proofs.Bits.{shift-bit, half-bit, none-bit}
-use Rattle.masks.proofs.Width.{in-below, stop, close-stop}
+use Rattle.masks.proofs.Width.{close-stop}
 
--- the lowest set bit, and zeros below it
-record Lowest (K m z : ℕ) : Type 0 where
-  pub below : z < K
-  pub set : bit m z ≡ 1
-  pub clear : (i : ℕ) → i < z → bit m i ≡ 0
-
-low-bit : (m : ℕ) → bit m 0 ≡ m % 2
-low-bit m = ap (λ (z : ℕ). z % 2) (div-one m)
-
-clear-more : (m z : ℕ) → m % 2 ≡ 0 → ((i : ℕ) → i < z → bit (m / 2) i ≡ 0) → (i : ℕ) → i < suc z → bit m i ≡ 0
-clear-more m z e h zero l = low-bit m ∙ e
-clear-more m z e h (suc i) l = sym (half-bit m i) ∙ h i (omega arith)
-
-lowest : (K m : ℕ) → 0 < m → m < 2 ^ K → Lowest K m (trailingZeros K m)
-unfolding trailingZeros
-lowest zero m p h = absurd (omega arith)
-lowest (suc K) m p h = go (m % 2) refl (λ e. lowest K (m / 2) (omega arith) (omega (arith, pow-suc 2 K)))
-  where
-    go : (d : ℕ) → m % 2 ≡ d → (m % 2 ≡ 0 → Lowest K (m / 2) (trailingZeros K (m / 2))) → Lowest (suc K) m (under d (trailingZeros K (m / 2)))
-    go zero e ih = record {
-      below = omega (arith, ih e .below);
-      set = sym (half-bit m (trailingZeros K (m / 2))) ∙ ih e .set;
-      clear = clear-more m (trailingZeros K (m / 2)) e (ih e .clear);
-    }
-    go (suc d) e ih = record { below = omega arith; set = low-bit m ∙ omega arith; clear = λ i l. absurd (omega arith) }
-
--- what a turn of the walk finds from place k on: z places that are clear, then one that is set; next is what is left of the mask
-pub record Turn (K v k z next : ℕ) : Type 0 where
-  pub room : k + z < K
-  pub set : has v (k + z) ≡ true
-  pub clear : (i : ℕ) → k ≤ i → i < k + z → has v i ≡ false
-  pub left : next ≡ v / 2 ^ (k + z + 1)
-
-pub turn : (K v k rest : ℕ) → v < 2 ^ K → rest ≡ v / 2 ^ k → (rest ≡ 0 → ⊥)
-    → Turn K v k (trailingZeros K rest) (rest / 2 ^ trailingZeros K rest / 2)
-turn K v k rest h e n =
-    let z = trailingZeros K rest in
-    let f = lowest K rest (omega arith) (omega (arith, shr-le v k)) in
-    let same : (i : ℕ) → bit v (k + i) ≡ bit rest i = λ i. sym (shift-bit v k i) ∙ ap (λ (r : ℕ). bit r i) (sym e) in
-    let one : has v (k + z) ≡ true = ap (λ (b : ℕ). eqb b 1) (same z ∙ f .set) in
-    record {
-      room = in-below v K h (k + z) one;
-      set = one;
-      clear = λ i a b.
-          let at : i ≡ k + (i - k) = omega arith in ap (λ (b : ℕ). eqb b 1) (ap (bit v) at ∙ same (i - k) ∙ f .clear (i - k) (omega arith));
-      left = ap (λ (r : ℕ). r / 2 ^ z / 2) e ∙ ap (λ (r : ℕ). r / 2) (shr-shr v k z) ∙ shr-shr v (k + z) 1;
-    }
-
-pub first-turn : (K v : ℕ) → v < 2 ^ K → (v ≡ 0 → ⊥) → Turn K v 0 (trailingZeros K v) (v / 2 ^ trailingZeros K v / 2)
-first-turn K v h n = turn K v 0 v h (sym (div-one v)) n
-
--- the walk ends where nothing is left
-pub none-left : (v k : ℕ) → 0 ≡ v / 2 ^ k → (i : ℕ) → k ≤ i → has v i ≡ false
-none-left v k e i l =
-    let at : i ≡ k + (i - k) = omega arith in
-    ap (λ (b : ℕ). eqb b 1) (ap (bit v) at ∙ sym (shift-bit v k (i - k)) ∙ ap (λ (r : ℕ). bit r (i - k)) (sym e) ∙ none-bit (i - k))
-
-pub walked : (v k w : ℕ) → k ≤ 64 → 0 ≡ v / 2 ^ k → sumTo (tooClose (has v) w) k ≡ sumTo (tooClose (has v) w) 64
-walked v k w l e = sym (close-stop k 64 l (has v) w (λ i a b. none-left v k e i a))
+pub walked : (v k w : ℕ) → k ≤ mostSlots → 0 ≡ v / 2 ^ k → sumTo (tooClose (has v) w) k ≡ sumTo (tooClose (has v) w) mostSlots
+walked v k w l e = sym (close-stop k mostSlots l (has v) w (λ i a b. none-left v k e i a))
 
 -- c is the sum of the games below `behind`, the place behind the last of them, and rest is the mask from there on
 pub record Summed (v w c rest : ℕ) : Type 0 where
   pub behind : ℕ
   pub some : 0 < behind
-  pub within : behind ≤ 64
+  pub within : behind ≤ mostSlots
   pub small : c ≤ 255 * behind
   pub left : rest ≡ v / 2 ^ behind
   pub sum : c ≡ sumTo (tooClose (has v) w) behind
@@ -118,7 +61,7 @@ module _ (v w : ℕ) (h : v < 2 ^ 64) where
       let gap : k + z + 1 - k ≡ z + 1 = omega arith in
       found v w k z (turn 64 v k rest h (s .left) n) {r = r} (s .small) b (s .sum) (s .last) (rw (lt-ltb 0 k (s .some), gap) e)
 
-  pub summed-all : {c rest : ℕ} → Summed v w c rest → rest ≡ 0 → c ≡ sumTo (tooClose (has v) w) 64
+  pub summed-all : {c rest : ℕ} → Summed v w c rest → rest ≡ 0 → c ≡ sumTo (tooClose (has v) w) mostSlots
   summed-all s e = s .sum ∙ walked v (s .behind) w (s .within) (sym e ∙ s .left)
 
 -- closeness by equal tests of slots

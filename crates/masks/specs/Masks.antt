@@ -1,7 +1,7 @@
 -- Masks of slots as plain numbers of any width.
 use mathlib.Core.Path.{_≡_}
 use mathlib.Core.Bool.{Bool, _&&_}
-use Prim.Native.Nat.{ℕ, zero, suc, _^_, _<_, _≤_}
+use Prim.Native.Nat.{ℕ, _^_, _<_, _≤_}
 use lib.Bits.{bitOr, bitXor}
 use Rattle.robinx.specs.Sums.{only}
 use Rattle.robinx.specs.Groups.{bit, has}
@@ -14,11 +14,6 @@ joined m k = bitOr m (2 ^ k)
 -- the mask without slot k
 abbrev pub without : ℕ → ℕ → ℕ
 without m k = bitXor (bitOr m (2 ^ k)) (2 ^ k)
-
--- the union of f 0, .., f (n − 1)
-unfoldable pub unionTo : (ℕ → ℕ) → ℕ → ℕ
-unionTo f zero = 0
-unionTo f (suc k) = bitOr (unionTo f k) (f k)
 
 -- every slot of m is one of n
 abbrev pub Within : ℕ → ℕ → Type 0

@@ -3,6 +3,7 @@ use mathlib.Core.List.{List}
 use mathlib.Core.Path.{_≡_}
 use Prim.Native.Nat.{ℕ, zero, suc, _+_, _-_, _*_, _/_, _%_, _^_, _<_, min}
 use lib.ListN.{getD, set}
+use Rattle.robinx.specs.Season.{mostTeams, mostSlots}
 use Rattle.robinx.specs.Sums.{sumTo, maxTo, dist}
 use Rattle.robinx.specs.Groups.{bit}
 use Rattle.robinx.specs.Deviations.{outside}
@@ -20,7 +21,10 @@ unfoldable pub laid : List ℕ → (ℕ → ℕ) → ℕ → List ℕ
 laid row f zero = row
 laid row f (suc k) = set (laid row f k) k (f k)
 
--- Many rows in one table: the row from place a on, and the same of it
+-- Many rows in one table, which has places for a row of each team: the row from place a on, and the same of it
+abbrev pub places : ℕ
+places = mostTeams * mostSlots
+
 abbrev pub rowAt : List ℕ → ℕ → ℕ → ℕ
 rowAt rows a k = getD rows (a + k) 0
 

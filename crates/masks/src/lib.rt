@@ -1,48 +1,71 @@
-// Masks of slots: bit k of a u64 stands for slot k, counted from 0. Everything that knows how many slots a mask has is in here.
+// Masks of slots: bit k of a u64 stands for slot k, counted from 0. Everything that knows that a mask is one word is in here.
 ghost use mathlib.Core.Path.{_≡_};
 ghost use Prim.Native.Nat.{_+_, _-_, _%_, _<_, _≤_, _^_, min, max};
 ghost use lib.Bits.{bitOr};
+ghost use lib.Count.{ones};
+ghost use Rattle.robinx.specs.Season.{mostSlots};
 ghost use Rattle.robinx.specs.Sums.{only, sumTo, dist};
 ghost use Rattle.robinx.specs.Groups.{bit, has, reaches};
 ghost use Rattle.robinx.specs.Deviations.{over, outside, tooClose};
 ghost use Rattle.masks.specs.Masks.{joined, without, Within, isBreak, Breaks};
-ghost use Rattle.masks.specs.Rows.{marked, rowAt, upTo, laid, laidAt, packed, byte, farthestTo, runsTo};
+ghost use Rattle.masks.specs.Rows.{places, marked, rowAt, upTo, laid, laidAt, packed, byte, farthestTo, runsTo};
+use robinx::Season;
+
+pub type Slots = u64;
+
+// A table of rows has a place for each slot of each team.
+pub const PLACES: usize = Season::TEAMS * Season::SLOTS;
+
+// The first p slots.
+pub fn all(p: usize) -> Slots
+    requires { ⌜ (1 ≤ p) × (p ≤ mostSlots) ⌝ }
+    ensures { λ r. ⌜ r ≡ 2 ^ p - 1 ⌝ }
+{
+    u64::MAX >> (Season::SLOTS - p)
+}
+
+// How many slots the mask has.
+pub fn size(s: Slots) -> usize
+    ensures { λ r. ⌜ (r ≡ ones s) × (r ≤ mostSlots) ⌝ }
+{
+    u64::count_ones(s) as usize
+}
 
 // Slot k is in the mask.
-pub fn is_in(s: u64, k: u64) -> bool
-    requires { ⌜ k < 64 ⌝ }
+pub fn is_in(s: Slots, k: u64) -> bool
+    requires { ⌜ k < mostSlots ⌝ }
     ensures { λ r. ⌜ r ≡ has s k ⌝ }
 {
     (s >> k) % 2 == 1
 }
 
 // The mask of one slot.
-pub fn slot(k: u64) -> u64
-    requires { ⌜ k < 64 ⌝ }
+pub fn slot(k: u64) -> Slots
+    requires { ⌜ k < mostSlots ⌝ }
     ensures { λ r. ⌜ r ≡ 2 ^ k ⌝ }
 {
     1u64 << k
 }
 
 // Slot k is at or before the last one of the mask.
-pub fn last_reach(s: u64, k: u64) -> bool
-    requires { ⌜ k < 64 ⌝ }
+pub fn last_reach(s: Slots, k: u64) -> bool
+    requires { ⌜ k < mostSlots ⌝ }
     ensures { λ r. ⌜ r ≡ reaches s k ⌝ }
 {
     slot(k) <= s
 }
 
 // The mask with slot k.
-pub fn joined(m: u64, k: u64) -> u64
-    requires { ⌜ k < 64 ⌝ }
+pub fn joined(m: Slots, k: u64) -> Slots
+    requires { ⌜ k < mostSlots ⌝ }
     ensures { λ r. ⌜ r ≡ joined m k ⌝ }
 {
     m | slot(k)
 }
 
 // The mask without slot k.
-pub fn without(m: u64, k: u64) -> u64
-    requires { ⌜ k < 64 ⌝ }
+pub fn without(m: Slots, k: u64) -> Slots
+    requires { ⌜ k < mostSlots ⌝ }
     ensures { λ r. ⌜ r ≡ without m k ⌝ }
 {
     let b = slot(k);
@@ -50,42 +73,42 @@ pub fn without(m: u64, k: u64) -> u64
 }
 
 // The slots of either mask.
-pub fn union(m: u64, n: u64) -> u64
+pub fn union(m: Slots, n: Slots) -> Slots
     ensures { λ r. ⌜ r ≡ bitOr m n ⌝ }
 {
     m | n
 }
 
 // The mask's slots among the first p.
-pub fn front(m: u64, p: u64) -> u64
-    requires { ⌜ p ≤ 64 ⌝ }
+pub fn front(m: Slots, p: u64) -> Slots
+    requires { ⌜ p ≤ mostSlots ⌝ }
     ensures { λ r. ⌜ r ≡ m % 2 ^ p ⌝ }
 {
-    if p == 64 {
+    if p == Season::SLOTS as u64 {
         return m;
     }
     m & (slot(p) - 1)
 }
 
 // How many slots of m are in s.
-pub fn count_in(m: u64, s: u64) -> u32
-    ensures { λ r. ⌜ r ≡ over 64 s (bit m) ⌝ }
+pub fn count_in(m: Slots, s: Slots) -> u32
+    ensures { λ r. ⌜ r ≡ over mostSlots s (bit m) ⌝ }
 {
     u64::count_ones(m & s)
 }
 
 // The slots of the breaks of a side, whose games are some of all.
-fn break_mask(side: u64, all: u64) -> u64
+fn break_mask(side: Slots, all: Slots) -> Slots
     requires { ⌜ Within side all ⌝ }
-    ensures { λ r. ⌜ Breaks 64 side all r ⌝ }
+    ensures { λ r. ⌜ Breaks mostSlots side all r ⌝ }
 {
     side & std::num::wrapping_add_u64(u64::MAX - all, side << 1)
 }
 
 // The breaks of a side in the slots of s.
-pub fn breaks_in(side: u64, all: u64, s: u64) -> u32
+pub fn breaks_in(side: Slots, all: Slots, s: Slots) -> u32
     requires { ⌜ Within side all ⌝ }
-    ensures { λ r. ⌜ r ≡ over 64 s (λ k. only (isBreak side all k) 1) ⌝ }
+    ensures { λ r. ⌜ r ≡ over mostSlots s (λ k. only (isBreak side all k) 1) ⌝ }
 {
     count_in(break_mask(side, all), s)
 }
@@ -99,8 +122,8 @@ fn too_close(w: u8, gap: u32) -> u32
 }
 
 // How much closer than w slots the games of the mask are to those before them, summed: from one set bit to the next.
-pub fn closeness(v: u64, w: u8) -> u32
-    ensures { λ r. ⌜ r ≡ sumTo (tooClose (has v) w) 64 ⌝ }
+pub fn closeness(v: Slots, w: u8) -> u32
+    ensures { λ r. ⌜ r ≡ sumTo (tooClose (has v) w) mostSlots ⌝ }
 {
     if v == 0 {
         return 0;
@@ -117,11 +140,11 @@ pub fn closeness(v: u64, w: u8) -> u32
 }
 
 // A row of the mask: 255 for each of its slots, 0 for the others.
-pub fn spread(s: u64, row: &mut [u8; 64])
-    ensures { λ _. ⌜ now (row .exit) ≡ laid (now (row .entry)) (marked s) 64 ⌝ }
+pub fn spread(s: Slots, row: &mut [u8; Season::SLOTS])
+    ensures { λ _. ⌜ now (row .exit) ≡ laid (now (row .entry)) (marked s) mostSlots ⌝ }
 {
     let mut k = 0;
-    while k < 64 {
+    while k < Season::SLOTS {
         row[k] = ((s >> k) % 2) as u8 * 255;
         k += 1;
     }
@@ -141,8 +164,8 @@ fn eight(b: u64) -> u64
 }
 
 // The bytes of a word, laid from place a on: the compiler makes one store of them.
-fn lay_eight(w: u64, rows: &mut [u8; 2048], a: usize)
-    requires { ⌜ a ≤ 2040 ⌝ }
+fn lay_eight(w: u64, rows: &mut [u8; PLACES], a: usize)
+    requires { ⌜ a + 8 ≤ places ⌝ }
     ensures { λ _. ⌜ now (rows .exit) ≡ laidAt (now (rows .entry)) a (byte w) 8 ⌝ }
 {
     let mut j: usize = 0;
@@ -153,14 +176,14 @@ fn lay_eight(w: u64, rows: &mut [u8; 2048], a: usize)
 }
 
 // A row among many, from place a on: how many slots of v there are up to each slot. Eight at a time, with the count before them added to each.
-pub fn lay_at(v: u64, rows: &mut [u8; 2048], a: usize)
-    requires { ⌜ a ≤ 1984 ⌝ }
-    ensures { λ _. ⌜ now (rows .exit) ≡ laidAt (now (rows .entry)) a (upTo v) 64 ⌝ }
+pub fn lay_at(v: Slots, rows: &mut [u8; PLACES], a: usize)
+    requires { ⌜ a + mostSlots ≤ places ⌝ }
+    ensures { λ _. ⌜ now (rows .exit) ≡ laidAt (now (rows .entry)) a (upTo v) mostSlots ⌝ }
 {
     let mut q: u64 = 0;
     let mut rest = v;
     let mut k: usize = 0;
-    while k < 64 {
+    while k < Season::SLOTS {
         let w = eight(rest % 256) + q * 0x0101010101010101;
         lay_eight(w, rows, a + k);
         q = w >> 56;
@@ -194,13 +217,13 @@ fn gap(x: u8, y: u8) -> u8
 }
 
 // The largest distance of the rows from places a and b on at the slots that the row e marks. The smaller of mark and distance takes no branch.
-pub fn farthest(rows: &[u8; 2048], a: usize, b: usize, e: &[u8; 64]) -> u8
-    requires { ⌜ (a ≤ 1984) × (b ≤ 1984) ⌝ }
-    ensures { λ r. ⌜ r ≡ farthestTo (now (e .entry)) (rowAt (now (rows .entry)) a) (rowAt (now (rows .entry)) b) 64 ⌝ }
+pub fn farthest(rows: &[u8; PLACES], a: usize, b: usize, e: &[u8; Season::SLOTS]) -> u8
+    requires { ⌜ (a + mostSlots ≤ places) × (b + mostSlots ≤ places) ⌝ }
+    ensures { λ r. ⌜ r ≡ farthestTo (now (e .entry)) (rowAt (now (rows .entry)) a) (rowAt (now (rows .entry)) b) mostSlots ⌝ }
 {
     let mut m: u8 = 0;
     let mut k = 0;
-    while k < 64 {
+    while k < Season::SLOTS {
         m = larger(m, smaller(e[k], gap(rows[a + k], rows[b + k])));
         k += 1;
     }
@@ -214,8 +237,8 @@ fn off(low: u8, high: u8, c: u8) -> u8
 }
 
 // How far the counts of the first n runs of w slots are outside low .. high, summed. Place k of the row has the count before slot k.
-pub fn runs(row: &[u8; 2048], w: usize, low: u8, high: u8, n: usize) -> u32
-    requires { ⌜ n ≤ 65 - w ⌝ }
+pub fn runs(row: &[u8; PLACES], w: usize, low: u8, high: u8, n: usize) -> u32
+    requires { ⌜ n ≤ mostSlots + 1 - w ⌝ }
     ensures { λ r. ⌜ r ≡ runsTo (now (row .entry)) w low high n ⌝ }
 {
     let mut c: u32 = 0;

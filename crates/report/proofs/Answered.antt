@@ -7,64 +7,72 @@ use native.Mathlib.Omega.{arith}
 use lib.ListN.{length, take}
 use lib.Seq.{take-at}
 use Rattle.robinx.specs.Season.{decode}
-use Rattle.robinx.specs.Books.{allEntries, freshTally}
-use Rattle.robinx.specs.Calls.{Outcome, outcome, declined, unlessRefused, opened, openFault, openCall}
-use Rattle.robinx.specs.Refusals.{Sentence, sentence, firstTrue, ofSeason, ofBuffers, sentence6}
-use Rattle.robinx.specs.Report.{seasonOf, sheetOf, reportFault}
+use Rattle.robinx.specs.Books.{timetable, total, isHard, verdict, allEntries, freshTally}
+use Rattle.robinx.specs.Calls.{Outcome, buffers, outcome, declined, unlessRefused, opened, openFault, openCall}
+use Rattle.robinx.specs.Refusals.{Sentence, firstTrue, ofSeason, ofSheet}
+use Rattle.robinx.specs.Report.{seasonOf, sheetOf, reportFault, reportRows}
 use Rattle.robinx.specs.declared.Reply.{Reply}
-use Rattle.robinx.specs.declared.Season.{Season}
-use Rattle.season.specs.Sizes.{sizesOf}
 use Rattle.season.proofs.Read.{constraints-read}
 use Rattle.robinx.proofs.Passed.{orElse, first-of-both, none-true}
 use Rattle.robinx.proofs.Lengths.{length-tally}
 use Rattle.season.specs.declared.Examined.{Examined}
-use Rattle.report.specs.Answer.{unlessFault, reportReply, reportTally}
+use Rattle.report.specs.Answer.{upToSix, unlessFault, reportReply}
+use Rattle.report.specs.Rows.{Written, TallyOf, rowsOf, Reported}
+use Rattle.report.specs.declared.Report.{Report}
 use Rattle.report.proofs.Sixth.{UpToSix, clear}
+
+abbrev verdictOf : List ℕ → ℕ
+verdictOf input =
+    let m = decode (seasonOf input) in
+    verdict m (sheetOf input) (total isHard m (timetable m (sheetOf input)))
 
 abbrev pub Answers : List ℕ → Reply → List ℕ → Type 0
 Answers input a tally =
-    (a ≡ reportReply input) × (reportFault input ≡ 0 → take (decode (seasonOf input) .C + 2) tally ≡ reportTally input)
+    (a ≡ reportReply input) × (reportFault input ≡ 0 → TallyOf (seasonOf input) (sheetOf input) tally)
 
 -- sentences 7 and 8, with ledger and tally of the sizes that the season asks
-abbrev buffersOf : List ℕ → List Sentence
-buffersOf input = ofBuffers (decode (seasonOf input)) (sheetOf input) (allEntries (decode (seasonOf input))) (decode (seasonOf input) .C + 2)
+abbrev asked : List ℕ → List Sentence
+asked input = ofSheet (decode (seasonOf input)) (sheetOf input) (allEntries (decode (seasonOf input))) (decode (seasonOf input) .C + 2)
 
 module _ (input : List ℕ) {r : Examined} (x : UpToSix (seasonOf input) r) where
-  six-then-buffers : reportFault input ≡ orElse (r .fault) (firstTrue (buffersOf input))
+  six-then-asked : reportFault input ≡ orElse (r .fault) (firstTrue (asked input))
   unfolding reportFault
-  six-then-buffers =
-      first-of-both (ofSeason (seasonOf input) ++ sentence 6 (sentence6 (decode (seasonOf input))) ∷ []) (buffersOf input) tt
-      ∙ ap (λ (f : ℕ). orElse f (firstTrue (buffersOf input))) (sym (x .0))
+  six-then-asked =
+      first-of-both (upToSix (seasonOf input)) (asked input) tt ∙ ap (λ (f : ℕ). orElse f (firstTrue (asked input))) (sym (x .fault))
 
   -- one of the first six sentences gives the number
   pub refused-early : (tally : List ℕ) {a : Reply} → (r .fault ≡ 0 → ⊥) → a ≡ declined (r .fault) → Answers input a tally
   unfolding reportReply
-  refused-early tally {a} some e = go (r .fault) six-then-buffers some e
+  refused-early tally {a} some e = go (r .fault) six-then-asked some e
     where
-      go : (f : ℕ) → reportFault input ≡ orElse f (firstTrue (buffersOf input)) → (f ≡ 0 → ⊥) → a ≡ declined f → Answers input a tally
+      go : (f : ℕ) → reportFault input ≡ orElse f (firstTrue (asked input)) → (f ≡ 0 → ⊥) → a ≡ declined f → Answers input a tally
       go zero h some e = absurd (some refl)
       go (suc k) h some e = (rw h e, λ z. absurd (omega (arith, h, z)))
 
   -- none of the six is true, so the opening decides
   module _ (none : r .fault ≡ 0) (ledger tally : List ℕ) (el : length ledger ≡ allEntries (decode (seasonOf input)))
       (et : length tally ≡ decode (seasonOf input) .C + 2) where
-    same-fault : reportFault input ≡ openFault (seasonOf input) (sheetOf input) ledger tally
+    same-fault : reportFault input ≡ openFault (seasonOf input) (buffers (sheetOf input) ledger tally)
     unfolding reportFault openFault firstTrue
     same-fault =
-        let c = clear (seasonOf input) x none in
+        let c = clear x none in
         rw (c .0, c .1 .0, c .1 .1 .0, c .1 .1 .1 .0, c .1 .1 .1 .1 .0, c .1 .1 .1 .1 .1 .0, el, et)
 
     pub opened-answers : (rest : List ℕ) {a : Reply} {ledger′ tally′ : List ℕ}
-        → outcome a (sheetOf input) ledger′ tally′ ≡ openCall (seasonOf input) (sheetOf input) ledger tally → Answers input a (tally′ ++ rest)
-    unfolding openCall reportReply reportTally opened
+        → outcome a (buffers (sheetOf input) ledger′ tally′) ≡ openCall (seasonOf input) (buffers (sheetOf input) ledger tally)
+        → Answers input a (tally′ ++ rest)
+    unfolding openCall reportReply opened
     opened-answers rest {a} {ledger′} {tally′} h = go (reportFault input) refl (rw same-fault h)
       where
         go : (f : ℕ) → reportFault input ≡ f
-            → outcome a (sheetOf input) ledger′ tally′ ≡ unlessRefused f (opened (decode (seasonOf input)) (sheetOf input)) (sheetOf input) ledger tally
+            → outcome a (buffers (sheetOf input) ledger′ tally′)
+            ≡ unlessRefused f (opened (decode (seasonOf input)) (sheetOf input)) (buffers (sheetOf input) ledger tally)
             → Answers input a (tally′ ++ rest)
         go zero e h = (
           rw e (ap (λ (o : Outcome). o .reply) h),
-          λ _. rw (ap (λ (o : Outcome). o .tally) h) (take-at (freshTally (decode (seasonOf input)) (sheetOf input)) rest _ (length-tally (decode (seasonOf input)) (sheetOf input))),
+          λ _.
+              rw (ap (λ (o : Outcome). o .left .tally) h)
+              (take-at (freshTally (decode (seasonOf input)) (sheetOf input)) rest _ (length-tally (decode (seasonOf input)) (sheetOf input))),
         )
         go (suc k) e h = (rw e (ap (λ (o : Outcome). o .reply) h), λ z. absurd (omega (arith, e, z)))
 
@@ -73,23 +81,48 @@ module _ (input : List ℕ) {s : List ℕ} (es : s ≡ seasonOf input) {r : Exam
   pub refused-early-of : (tally : List ℕ) {a : Reply} → (r .fault ≡ 0 → ⊥) → a ≡ declined (r .fault) → Answers input a tally
   refused-early-of = refused-early input (rw es at x)
 
-  pub opened-answers-of : (none : r .fault ≡ 0) (ledger tally : List ℕ) → length ledger ≡ r .entries → {z : Season} → z ≡ sizesOf s
-      → length tally ≡ z .constraints + 2 → {sheet : List ℕ} → sheet ≡ sheetOf input → (rest : List ℕ) {a : Reply} {ledger′ tally′ : List ℕ}
-      → outcome a sheet ledger′ tally′ ≡ openCall s sheet ledger tally → Answers input a (tally′ ++ rest)
-  opened-answers-of none ledger tally el ez et eh rest h =
+  pub opened-answers-of : (none : r .fault ≡ 0) (ledger tally : List ℕ) → length ledger ≡ r .entries
+      → length tally ≡ r .sizes .constraints + 2 → {sheet : List ℕ} → sheet ≡ sheetOf input → (rest : List ℕ) {a : Reply} {ledger′ tally′ : List ℕ}
+      → outcome a (buffers sheet ledger′ tally′) ≡ openCall s (buffers sheet ledger tally) → Answers input a (tally′ ++ rest)
+  opened-answers-of none ledger tally el et eh rest h =
       opened-answers input (rw es at x) none ledger tally
-      (el ∙ rw es at (x .1 none .0))
-      (et ∙ ap (λ (k : ℕ). k + 2) (rw es at (constraints-read s ez)))
+      (el ∙ rw es at (x .entries none))
+      (et ∙ ap (λ (k : ℕ). k + 2) (rw es at (constraints-read s (x .sizes none))))
       rest
       (rw (es, eh) at h)
 
--- a reply that is not declined comes only where no sentence is true
-pub accepted-clear : (input : List ℕ) {a : Reply} → a ≡ reportReply input → a .declined ≡ false → firstTrue (ofSeason (seasonOf input)) ≡ 0
-unfolding reportReply reportFault firstTrue
-accepted-clear input e h = go (reportFault input) _ refl (sym (ap (λ (r : Reply). r .declined) e) ∙ h)
-  where
-    go : (f : ℕ) (r : Reply) → reportFault input ≡ f → unlessFault f r .declined ≡ false → firstTrue (ofSeason (seasonOf input)) ≡ 0
-    go zero r e h =
-        let c = none-true (ofSeason (seasonOf input) ++ sentence 6 (sentence6 (decode (seasonOf input))) ∷ [] ++ buffersOf input) e in
+-- What a reply says of the report: a refusal's number, or no fault and the verdict.
+module _ (input : List ℕ) {a : Reply} (e : a ≡ reportReply input) where
+  pub refusal-reported : a .declined ≡ true → (words : List ℕ) → Reported input (record { fault = a .number; count = 0 }) words
+  unfolding reportReply
+  refusal-reported h words = go (reportFault input) _ refl e refl
+    where
+      go : (f : ℕ) (r : Reply) → reportFault input ≡ f → a ≡ unlessFault f r → r .declined ≡ false
+          → Reported input (record { fault = a .number; count = 0 }) words
+      go zero r ef e n = absurd (true≢false (sym h ∙ ap (λ (r : Reply). r .declined) e ∙ n))
+      go (suc k) r ef e n = record { fault = ap (λ (r : Reply). r .number) e ∙ sym ef; rows = λ z. absurd (omega (arith, ef, z)) }
+
+  module _ (h : a .declined ≡ false) where
+    accepted-told : (reportFault input ≡ 0) × (a .number ≡ verdictOf input)
+    unfolding reportReply
+    accepted-told = go (reportFault input) _ e
+      where
+        go : (f : ℕ) (r : Reply) → a ≡ unlessFault f r → (f ≡ 0) × (a .number ≡ r .number)
+        go zero r e = (refl, ap (λ (r : Reply). r .number) e)
+        go (suc k) r e = absurd (true≢false (sym (ap (λ (r : Reply). r .declined) e) ∙ h))
+
+    pub accepted-clear : firstTrue (ofSeason (seasonOf input)) ≡ 0
+    unfolding reportFault firstTrue
+    accepted-clear =
+        let c = none-true (upToSix (seasonOf input) ++ asked input) (accepted-told .0) in
         rw (c .0, c .1 .0, c .1 .1 .0, c .1 .1 .1 .0, c .1 .1 .1 .1 .0)
-    go (suc k) r e h = absurd (true≢false h)
+
+    pub rows-reported : {s : List ℕ} → s ≡ seasonOf input → (tally : List ℕ)
+        → (reportFault input ≡ 0 → TallyOf (seasonOf input) (sheetOf input) tally) → {k : ℕ} {words : List ℕ}
+        → ((sheet : List ℕ) → TallyOf s sheet tally → Written (rowsOf (a .number) s sheet) k words)
+        → Reported input (record { fault = 0; count = k }) words
+    unfolding reportRows
+    rows-reported es tally t w = record {
+      fault = sym (accepted-told .0);
+      rows = λ z. rw (accepted-told .1) at ((rw es at w) (sheetOf input) (t z));
+    }

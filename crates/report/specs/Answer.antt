@@ -1,12 +1,25 @@
--- What the report prints, as a reply and a tally: a refusal with its number, or the first row's verdict and totals.
-use mathlib.Core.List.{List}
-use Prim.Native.Nat.{ℕ, zero, suc}
+-- The reply that the report is made of: a refusal with its number, or the first row's verdict and totals.
+use mathlib.Core.List.{List, [], _∷_, _++_}
+use Prim.Native.Nat.{ℕ, zero, suc, _+_, _*_}
 use lib.IntN.{pos}
-use Rattle.robinx.specs.Season.{decode}
-use Rattle.robinx.specs.Books.{timetable, total, isHard, isSoft, verdict, freshTally}
+use Rattle.robinx.specs.Season.{decode, mostGames, mostConstraints}
+use Rattle.robinx.specs.Books.{timetable, total, isHard, isSoft, verdict}
 use Rattle.robinx.specs.Calls.{declined, accepted}
+use Rattle.robinx.specs.Refusals.{Sentence, sentence, sentence6, ofSeason}
 use Rattle.robinx.specs.Report.{seasonOf, sheetOf, reportFault}
 use Rattle.robinx.specs.declared.Reply.{Reply}
+
+-- the most deviations of a season that is reported
+abbrev pub mostDeviations : ℕ
+mostDeviations = 6000
+
+-- the most bytes of an input that are read: one more than the longest season with its sheet
+abbrev pub mostBytes : ℕ
+mostBytes = 6 + 2 * mostGames + 24 * mostConstraints + mostGames + 1
+
+-- the sentences that are decided before the opening
+abbrev pub upToSix : List ℕ → List Sentence
+upToSix season = ofSeason season ++ sentence 6 (sentence6 (decode season)) ∷ []
 
 abbrev pub unlessFault : ℕ → Reply → Reply
 unlessFault zero r = r
@@ -17,6 +30,3 @@ reportReply input =
     let m = decode (seasonOf input) in
     let x = timetable m (sheetOf input) in
     unlessFault (reportFault input) (accepted (verdict m (sheetOf input) (total isHard m x)) (pos (total isHard m x)) (pos (total isSoft m x)))
-
-unfoldable pub reportTally : List ℕ → List ℕ
-reportTally input = freshTally (decode (seasonOf input)) (sheetOf input)

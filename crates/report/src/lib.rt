@@ -1,15 +1,16 @@
-// The report of a season and its sheet (document 01, "Season A and its printout"), written to standard output.
-// What is written is outside the contracts: they say which number a refusal has and what is given to the writing.
+// The report of a season and its sheet (document 01, "Season A and its printout"): its rows, and their printing. What is printed is
+// outside the contracts; `print` works nothing out.
 ghost use mathlib.Core.Path.{_≡_};
-ghost use mathlib.Core.List.{_∷_, [], _++_};
-ghost use Prim.Native.Nat.{ℕ, _+_, _≤_, _<_};
+ghost use mathlib.Core.List.{List, _∷_, [], _++_};
+ghost use Prim.Native.Nat.{ℕ, _+_, _*_, _≤_, _<_};
 ghost use lib.ListN.{length, take, drop};
-ghost use Rattle.robinx.specs.Season.{decode};
+ghost use Rattle.robinx.specs.Season.{mostConstraints};
 ghost use Rattle.robinx.specs.Report.{seasonOf, sheetOf, reportFault};
-ghost use Rattle.robinx.specs.Refusals.{sentence, firstTrue, ofSeason, sentence6};
-ghost use Rattle.robinx.specs.Books.{allEntries};
-ghost use Rattle.report.specs.Answer.{reportReply, reportTally};
+ghost use Rattle.robinx.specs.Refusals.{firstTrue, ofSeason};
 ghost use Rattle.season.specs.Sizes.{Measured};
+ghost use Rattle.season.specs.Examination.{Examination};
+ghost use Rattle.report.specs.Answer.{mostDeviations, upToSix, reportReply};
+ghost use Rattle.report.specs.Rows.{Written, TallyOf, penaltyOf, brokenOf, rowsOf, Reported};
 use libc::STDOUT_FILENO;
 use robinx::Reply;
 use robinx::Season;
@@ -32,29 +33,32 @@ fn season_end(input: &[u8]) -> usize
     end
 }
 
-// Sentences 1 to 6: the number of the first true one, or 0 and then the number of deviations.
+// The most deviations of a season that is reported.
+const MOST_DEVIATIONS: usize = 6000;
+
+// The most bytes of an input that are read: one more than the longest season with its sheet, so that the sheet of a longer input is too long.
+pub const MOST_BYTES: usize = 6 + 2 * Season::GAMES + 24 * Season::CONSTRAINTS + Season::GAMES + 1;
+
+// Any bytes, by sentences 1 to 6.
 fn examine(season: &[u8]) -> Examined
-    ensures { λ r. ⌜ (r .fault ≡ firstTrue (ofSeason (now (season .entry)) ++ sentence 6 (sentence6 (decode (now (season .entry)))) ∷ []))
-        × (r .fault ≡ 0 → (r .entries ≡ allEntries (decode (now (season .entry)))) × (r .entries ≤ 6000)) ⌝ }
+    ensures { λ r. ⌜ Examination (upToSix (now (season .entry))) (now (season .entry)) r ⌝ }
 {
     let e = season::examine(season);
     if e.fault != 0 {
         return e;
     }
-    if 6000 < e.entries {
-        return Examined {
-            fault: 6,
-            entries: 0,
-        };
+    if MOST_DEVIATIONS < e.entries {
+        return season::refused_by(6);
     }
     e
 }
 
 // The reply that the report is made of; ledger and tally are used as far as the season asks.
 fn open(input: &[u8], ledger: &mut [u32], tally: &mut [u64]) -> Reply
-    requires { ⌜ (6000 ≡ length (now ledger)) × (1026 ≡ length (now tally)) ⌝ }
+    requires { ⌜ (length (now ledger) ≡ mostDeviations) × (length (now tally) ≡ mostConstraints + 2) ⌝ }
     ensures { λ r. ⌜ (r ≡ reportReply (now (input .entry)))
-        × (reportFault (now (input .entry)) ≡ 0 → take (decode (seasonOf (now (input .entry))) .C + 2) (now (tally .exit)) ≡ reportTally (now (input .entry))) ⌝ }
+        × (reportFault (now (input .entry)) ≡ 0
+        → TallyOf (seasonOf (now (input .entry))) (sheetOf (now (input .entry))) (now (tally .exit))) ⌝ }
 {
     let end = season_end(input);
     let season = &input[..end];
@@ -62,15 +66,97 @@ fn open(input: &[u8], ledger: &mut [u32], tally: &mut [u64]) -> Reply
     if e.fault != 0 {
         return checker::calls::declined(e.fault);
     }
-    let z = season::reader::sizes(season);
     let entries = e.entries;
-    let words = z.constraints + 2;
+    let words = e.sizes.constraints + 2;
     checker::season_open(
         season,
         &input[end..],
         &mut ledger[..entries],
         &mut tally[..words],
     )
+}
+
+// Writes row number k.
+fn put_row(out: &mut [u64], k: usize, first: u64, second: u64, third: u64)
+    requires { ⌜ 3 * k + 3 ≤ length (now out) ⌝ }
+    ensures { λ _. ⌜ ((rows : List (List ℕ)) → Written rows k (now (out .entry))
+        → Written (rows ++ (first ∷ second ∷ third ∷ []) ∷ []) (k + 1) (now (out .exit))) ⌝ }
+{
+    let at = 3 * k;
+    out[at] = first;
+    out[at + 1] = second;
+    out[at + 2] = third;
+}
+
+// Writes the row of constraint c behind k rows, where its penalty is above 0, and gives the number of rows then.
+fn put_broken(season: &[u8], z: Season, c: usize, penalty: u64, out: &mut [u64], k: usize) -> usize
+    requires { ⌜ (Measured (now season) z) × (c < z .constraints) × (3 * k + 3 ≤ length (now out)) ⌝ }
+    ensures { λ r. ⌜ (r ≤ k + 1) × ((first sheet : List ℕ) → penalty ≡ penaltyOf (now (season .entry)) sheet c
+        → Written (first ∷ brokenOf (now (season .entry)) sheet c) k (now (out .entry))
+        → Written (first ∷ brokenOf (now (season .entry)) sheet (c + 1)) r (now (out .exit))) ⌝ }
+{
+    if penalty == 0 {
+        return k;
+    }
+    let read = season::cursor::constraint_of(season, z, c);
+    put_row(out, k, c as u64, read.kind as u64, penalty);
+    k + 1
+}
+
+// Writes the rows of the broken constraints behind the first row, and gives the number of rows then.
+fn put_all_broken(season: &[u8], z: Season, tally: &[u64], out: &mut [u64]) -> usize
+    requires { ⌜ (Measured (now season) z) × (z .constraints ≤ length (now tally)) × (3 * (z .constraints + 1) ≤ length (now out)) ⌝ }
+    ensures { λ r. ⌜ ((first sheet : List ℕ) → TallyOf (now (season .entry)) sheet (now (tally .entry))
+        → Written (first ∷ []) 1 (now (out .entry))
+        → Written (first ∷ brokenOf (now (season .entry)) sheet (z .constraints)) r (now (out .exit))) ⌝ }
+{
+    let mut k = 1;
+    let mut c = 0;
+    while c < z.constraints {
+        k = put_broken(season, z, c, tally[c], &mut *out, k);
+        c += 1;
+    }
+    k
+}
+
+// Writes the rows of an accepted opening, and gives their number.
+fn put_rows(season: &[u8], verdict: u8, tally: &[u64], out: &mut [u64]) -> usize
+    requires { ⌜ (firstTrue (ofSeason (now season)) ≡ 0) × (length (now tally) ≡ mostConstraints + 2)
+        × (length (now out) ≡ 3 * (mostConstraints + 1)) ⌝ }
+    ensures { λ r. ⌜ ((sheet : List ℕ) → TallyOf (now (season .entry)) sheet (now (tally .entry))
+        → Written (rowsOf verdict (now (season .entry)) sheet) r (now (out .exit))) ⌝ }
+{
+    let z = season::reader::sizes(season);
+    let at = z.constraints;
+    let hard = tally[at];
+    let soft = tally[at + 1];
+    put_row(&mut *out, 0, verdict as u64, hard, soft);
+    put_all_broken(season, z, tally, out)
+}
+
+// The number of the refusal, or 0 and then the number of rows.
+pub struct Report {
+    pub fault: u8,
+    pub count: usize,
+}
+
+// The report of an input, season and then sheet: its rows of three words, one after the other.
+pub fn rows(input: &[u8], out: &mut [u64]) -> Report
+    requires { ⌜ length (now out) ≡ 3 * (mostConstraints + 1) ⌝ }
+    ensures { λ r. ⌜ Reported (now (input .entry)) r (now (out .exit)) ⌝ }
+{
+    let mut ledger = [0u32; MOST_DEVIATIONS];
+    let mut tally = [0u64; Season::CONSTRAINTS + 2];
+    let reply = open(input, &mut ledger, &mut tally);
+    if reply.declined {
+        return Report {
+            fault: reply.number,
+            count: 0,
+        };
+    }
+    let end = season_end(input);
+    let count = put_rows(&input[..end], reply.number, &tally, out);
+    Report { fault: 0, count }
 }
 
 fn print_refused(number: u8) {
@@ -92,45 +178,24 @@ fn print_row(first: u64, second: u64, third: u64) {
     io::write_all(STDOUT_FILENO, &[b'\n']);
 }
 
-// The row of constraint c, where its penalty is above 0.
-fn print_broken(season: &[u8], z: Season, c: usize, penalty: u64)
-    requires { ⌜ (Measured (now season) z) × (c < z .constraints) ⌝ }
+fn print_rows(out: &[u64], count: usize)
+    requires { ⌜ 3 * count ≤ length (now out) ⌝ }
 {
-    if 0 < penalty {
-        let k = season::cursor::constraint_of(season, z, c);
-        print_row(c as u64, k.kind as u64, penalty);
+    let mut k = 0;
+    while k < count {
+        let at = 3 * k;
+        print_row(out[at], out[at + 1], out[at + 2]);
+        k += 1;
     }
 }
 
-fn print_all_broken(season: &[u8], z: Season, tally: &[u64])
-    requires { ⌜ (Measured (now season) z) × (z .constraints ≤ length (now tally)) ⌝ }
-{
-    let mut c = 0;
-    while c < z.constraints {
-        print_broken(season, z, c, tally[c]);
-        c += 1;
-    }
-}
-
-// The rows of an accepted opening.
-fn print_rows(season: &[u8], verdict: u8, tally: &[u64])
-    requires { ⌜ (firstTrue (ofSeason (now season)) ≡ 0) × (1026 ≡ length (now tally)) ⌝ }
-{
-    let z = season::reader::sizes(season);
-    let at = z.constraints;
-    print_row(verdict as u64, tally[at], tally[at + 1]);
-    print_all_broken(season, z, tally);
-}
-
-// The report of an input: season, then sheet.
+// Prints the report of an input.
 pub fn print(input: &[u8]) {
-    let mut ledger = [0u32; 6000];
-    let mut tally = [0u64; 1026];
-    let reply = open(input, &mut ledger, &mut tally);
-    if reply.declined {
-        print_refused(reply.number);
+    let mut out = [0u64; 3 * (Season::CONSTRAINTS + 1)];
+    let r = rows(input, &mut out);
+    if r.fault != 0 {
+        print_refused(r.fault);
         return;
     }
-    let end = season_end(input);
-    print_rows(&input[..end], reply.number, &tally);
+    print_rows(&out, r.count);
 }

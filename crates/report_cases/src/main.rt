@@ -1,6 +1,7 @@
 // Reads a list of inputs on standard input, each one as two bytes of length, lowest first, and its bytes, and prints
 // the report of each one as `season-report` would.
 ghost use Prim.Native.Nat.{_<_, _≤_};
+ghost use Rattle.report.specs.Answer.{mostBytes};
 use libc::STDIN_FILENO;
 use libc::STDOUT_FILENO;
 
@@ -23,9 +24,13 @@ fn next_length() -> usize
 
 // An input longer than the program's own buffer is cut there.
 fn cut(length: usize) -> usize
-    ensures { λ r. ⌜ (r ≤ length) × (r ≤ 27655) ⌝ }
+    ensures { λ r. ⌜ (r ≤ length) × (r ≤ mostBytes) ⌝ }
 {
-    if length < 27655 { length } else { 27655 }
+    if length < report::MOST_BYTES {
+        length
+    } else {
+        report::MOST_BYTES
+    }
 }
 
 fn print_read(space: &mut [u8]) {

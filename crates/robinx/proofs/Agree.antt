@@ -6,11 +6,12 @@ use Prim.Native.Nat.{ℕ, suc, _+_, _-_, _<_, _≤_}
 use native.Mathlib.Omega.{arith}
 use lib.Dec.{ltb}
 use Rattle.robinx.specs.Sums.{sumTo, dist}
+use Rattle.robinx.specs.Season.{slotsOf}
 use Rattle.robinx.specs.Groups.{has, reaches}
 use Rattle.robinx.specs.Timetable.{X, side, homeSide, awaySide, anySide, firstModes, gamesWith, gamesIn, gamesAgainst, gamesUpTo, between, gamesBetween, plays, breakOn, breaksIn, meet}
-use Rattle.robinx.specs.Kinds.{Kind, kindOf}
+use Rattle.robinx.specs.Kinds.{Kind, kindOf, formOf, formAt}
 use Rattle.robinx.specs.Deviations.{outside, offTarget, inRun, breaks, tooClose, devCA1, devCA2, devCA3, devCA4, devGA1, devBR1, devBR2, devFA1, devFA2, devSE1, deviationsOf, deviations}
-use Rattle.robinx.specs.Touch.{scopeOf, scope}
+use Rattle.robinx.specs.Touch.{teamsTouch, slotTouches, scopeOf, scope}
 use Rattle.robinx.specs.declared.Constraint.{Constraint}
 use Rattle.robinx.proofs.Ext.{only-ext, sum-ext, each-ext, eachPair-ext, over-ext, worst-ext, has-reaches, lastWas-ext, lastSlot-ext}
 
@@ -86,86 +87,87 @@ module _ (n P : ℕ) (x y : X) where
 
   -- A law a kind.
   module _ (c : Constraint) where
-    pub agreeCA1 : Agree (scopeOf Kind.CA1 c) n P x y → devCA1 n P c x ≡ devCA1 n P c y
-    unfolding devCA1
+    pub agreeCA1 : Agree (scopeOf (formOf Kind.CA1) c) n P x y → devCA1 n P c x ≡ devCA1 n P c y
+    unfolding devCA1 formOf scopeOf teamsTouch slotTouches
     agreeCA1 h =
-        each-ext n (c .t1) (λ t lt m. ap (outside (c .kmin) (c .kmax)) (over-ext P (c .s) (λ k lk s.
+        each-ext n (c .t1) (λ t lt m. ap (outside (c .kmin) (c .kmax)) (over-ext P (slotsOf c) (λ k lk s.
         gamesIn-agree _ t k (λ j lj. (h t j k lt lj lk (simp (m, s)), h j t k lj lt lk (simp (m, s, or-true)))))))
 
-    pub agreeCA2 : Agree (scopeOf Kind.CA2 c) n P x y → devCA2 n P c x ≡ devCA2 n P c y
-    unfolding devCA2
+    pub agreeCA2 : Agree (scopeOf (formOf Kind.CA2) c) n P x y → devCA2 n P c x ≡ devCA2 n P c y
+    unfolding devCA2 formOf scopeOf teamsTouch slotTouches
     agreeCA2 h =
-        each-ext n (c .t1) (λ t lt m. ap (outside (c .kmin) (c .kmax)) (over-ext P (c .s) (λ k lk s.
+        each-ext n (c .t1) (λ t lt m. ap (outside (c .kmin) (c .kmax)) (over-ext P (slotsOf c) (λ k lk s.
         gamesAgainst-agree _ (c .t2) t k (λ j lj b.
         (h t j k lt lj lk (simp (m, s, b)), h j t k lj lt lk (simp (m, s, b, or-true)))))))
 
-    pub agreeCA3 : Agree (scopeOf Kind.CA3 c) n P x y → devCA3 n P c x ≡ devCA3 n P c y
-    unfolding devCA3 inRun
+    pub agreeCA3 : Agree (scopeOf (formOf Kind.CA3) c) n P x y → devCA3 n P c x ≡ devCA3 n P c y
+    unfolding devCA3 inRun formOf scopeOf teamsTouch slotTouches
     agreeCA3 h =
         each-ext n (c .t1) (λ t lt m. sum-ext (suc P - c .w) (λ a la. ap (outside (c .kmin) (c .kmax)) (sum-ext (c .w) (λ d ld.
         gamesAgainst-agree _ (c .t2) t (a + d) (λ j lj b.
         (h t j (a + d) lt lj (omega arith) (simp (m, b)), h j t (a + d) lj lt (omega arith) (simp (m, b, or-true))))))))
 
-    pub agreeCA4 : Agree (scopeOf Kind.CA4 c) n P x y → devCA4 n P c x ≡ devCA4 n P c y
-    unfolding devCA4 between
+    pub agreeCA4 : Agree (scopeOf (formOf Kind.CA4) c) n P x y → devCA4 n P c x ≡ devCA4 n P c y
+    unfolding devCA4 between formOf scopeOf teamsTouch slotTouches
     agreeCA4 h =
         ap₂ (cond (firstModes (c .mode)))
-        (ap (λ (v : ℕ). outside (c .kmin) (c .kmax) v ∷ []) (over-ext P (c .s) same))
-        (each-ext P (c .s) (λ k lk s. ap (outside (c .kmin) (c .kmax)) (same k lk s)))
+        (ap (λ (v : ℕ). outside (c .kmin) (c .kmax) v ∷ []) (over-ext P (slotsOf c) same))
+        (each-ext P (slotsOf c) (λ k lk s. ap (outside (c .kmin) (c .kmax)) (same k lk s)))
       where
         d : ℕ
         d = side (c .mode)
 
-        same : (k : ℕ) → k < P → has (c .s) k ≡ true
+        same : (k : ℕ) → k < P → has (slotsOf c) k ≡ true
             → gamesBetween n x (side (c .mode)) (c .t1) (c .t2) k ≡ gamesBetween n y (side (c .mode)) (c .t1) (c .t2) k
         same k lk s = gamesBetween-agree _ (c .t1) (c .t2) k (λ i j li lj b.
             h i j k li lj lk (counted (has d 0) (has d 1) (has (c .t1) i && has (c .t2) j) _ _ b s))
 
-    pub agreeGA1 : Agree (scopeOf Kind.GA1 c) n P x y → devGA1 n P c x ≡ devGA1 n P c y
-    unfolding devGA1 between
-    agreeGA1 h = ap (λ (v : ℕ). outside (c .kmin) (c .kmax) v ∷ []) (over-ext P (c .s) (λ k lk s.
+    pub agreeGA1 : Agree (scopeOf (formOf Kind.GA1) c) n P x y → devGA1 n P c x ≡ devGA1 n P c y
+    unfolding devGA1 between formOf scopeOf teamsTouch slotTouches
+    agreeGA1 h = ap (λ (v : ℕ). outside (c .kmin) (c .kmax) v ∷ []) (over-ext P (slotsOf c) (λ k lk s.
         gamesBetween-agree homeSide (c .t1) (c .t2) k (λ i j li lj b. h i j k li lj lk (simp (s, simp or-false at b)))))
 
-    breaks-agree : Agree (scopeOf Kind.BR1 c) n P x y → (t : ℕ) → t < n → has (c .t1) t ≡ true → breaks n P c x t ≡ breaks n P c y t
-    unfolding breaks
-    breaks-agree h t lt m = over-ext P (c .s) (λ k lk s. breaksIn-agree t k (λ a j la lj.
-        let r : reaches (c .s) a ≡ true = has-reaches (c .s) s la in
+    breaks-agree : Agree (scopeOf (formOf Kind.BR1) c) n P x y → (t : ℕ) → t < n → has (c .t1) t ≡ true → breaks n P c x t ≡ breaks n P c y t
+    unfolding breaks formOf scopeOf teamsTouch slotTouches
+    breaks-agree h t lt m = over-ext P (slotsOf c) (λ k lk s. breaksIn-agree t k (λ a j la lj.
+        let r : reaches (slotsOf c) a ≡ true = has-reaches (slotsOf c) s la in
         (h t j a lt lj (omega arith) (simp (m, r)), h j t a lj lt (omega arith) (simp (m, r, or-true)))) (side (c .mode)))
 
-    pub agreeBR1 : Agree (scopeOf Kind.BR1 c) n P x y → devBR1 n P c x ≡ devBR1 n P c y
+    pub agreeBR1 : Agree (scopeOf (formOf Kind.BR1) c) n P x y → devBR1 n P c x ≡ devBR1 n P c y
     unfolding devBR1
     agreeBR1 h = each-ext n (c .t1) (λ t lt m. ap (offTarget (firstModes (c .mode)) (c .kmax)) (breaks-agree h t lt m))
 
-    pub agreeBR2 : Agree (scopeOf Kind.BR2 c) n P x y → devBR2 n P c x ≡ devBR2 n P c y
-    unfolding devBR2
+    pub agreeBR2 : Agree (scopeOf (formOf Kind.BR2) c) n P x y → devBR2 n P c x ≡ devBR2 n P c y
+    unfolding devBR2 formOf scopeOf
     agreeBR2 h =
         ap (λ (v : ℕ). offTarget (firstModes (c .mode)) (c .kmax) v ∷ [])
         (sum-ext n (λ t lt. only-ext (has (c .t1) t) (breaks-agree h t lt)))
 
-    upTo-agree : Agree (scopeOf Kind.FA1 c) n P x y → (d t : ℕ) → t < n → has (c .t1) t ≡ true
-        → (k : ℕ) → k < P → has (c .s) k ≡ true → gamesUpTo n x d (c .t1) t (suc k) ≡ gamesUpTo n y d (c .t1) t (suc k)
+    upTo-agree : Agree (scopeOf (formOf Kind.FA1) c) n P x y → (d t : ℕ) → t < n → has (c .t1) t ≡ true
+        → (k : ℕ) → k < P → has (slotsOf c) k ≡ true → gamesUpTo n x d (c .t1) t (suc k) ≡ gamesUpTo n y d (c .t1) t (suc k)
+    unfolding formOf scopeOf teamsTouch slotTouches
     upTo-agree h d t lt m k lk s = gamesUpTo-agree d (c .t1) t (suc k) (λ j a lj la b.
-        let r : reaches (c .s) a ≡ true = has-reaches (c .s) s (omega arith) in
+        let r : reaches (slotsOf c) a ≡ true = has-reaches (slotsOf c) s (omega arith) in
         (h t j a lt lj (omega arith) (simp (m, b, r)), h j t a lj lt (omega arith) (simp (m, b, r))))
 
-    pub agreeFA1 : Agree (scopeOf Kind.FA1 c) n P x y → devFA1 n P c x ≡ devFA1 n P c y
+    pub agreeFA1 : Agree (scopeOf (formOf Kind.FA1) c) n P x y → devFA1 n P c x ≡ devFA1 n P c y
     unfolding devFA1
     agreeFA1 h =
-        each-ext n (c .t1) (λ t lt m. worst-ext P (c .s) (λ k lk s.
+        each-ext n (c .t1) (λ t lt m. worst-ext P (slotsOf c) (λ k lk s.
         ap₂ (λ (a b : ℕ). dist a b - c .kmax) (upTo-agree h homeSide t lt m k lk s) (upTo-agree h awaySide t lt m k lk s)))
 
-    pub agreeFA2 : Agree (scopeOf Kind.FA2 c) n P x y → devFA2 n P c x ≡ devFA2 n P c y
-    unfolding devFA2
+    pub agreeFA2 : Agree (scopeOf (formOf Kind.FA2) c) n P x y → devFA2 n P c x ≡ devFA2 n P c y
+    unfolding devFA2 formOf scopeOf
     agreeFA2 h =
-        eachPair-ext n (c .t1) (λ i j li lj mi mj. worst-ext P (c .s) (λ k lk s.
+        eachPair-ext n (c .t1) (λ i j li lj mi mj. worst-ext P (slotsOf c) (λ k lk s.
         ap₂ (λ (a b : ℕ). dist a b - c .kmax) (upTo-agree h _ i li mi k lk s) (upTo-agree h _ j lj mj k lk s)))
 
-    pub agreeSE1 : Agree (scopeOf Kind.SE1 c) n P x y → devSE1 n P c x ≡ devSE1 n P c y
-    unfolding devSE1
+    pub agreeSE1 : Agree (scopeOf (formOf Kind.SE1) c) n P x y → devSE1 n P c x ≡ devSE1 n P c y
+    unfolding devSE1 formOf scopeOf teamsTouch slotTouches
     agreeSE1 h = eachPair-ext n (c .t1) (λ i j li lj mi mj. closeness-agree (c .w) i j (λ k lk.
         (h i j k li lj lk (simp (mi, mj)), h j i k lj li lk (simp (mi, mj)))))
 
-    agreeOf : (k : Kind) → Agree (scopeOf k c) n P x y → deviationsOf k n P c x ≡ deviationsOf k n P c y
+    agreeOf : (k : Kind) → Agree (scopeOf (formOf k) c) n P x y → deviationsOf k n P c x ≡ deviationsOf k n P c y
     unfolding deviationsOf
     agreeOf Kind.CA1 h = agreeCA1 h
     agreeOf Kind.CA2 h = agreeCA2 h
@@ -180,5 +182,5 @@ module _ (n P : ℕ) (x y : X) where
     agreeOf Kind.unknown h = refl
 
     pub agreement : Agree (scope c) n P x y → deviations n P c x ≡ deviations n P c y
-    unfolding deviations scope
+    unfolding deviations formAt
     agreement h = agreeOf (kindOf (c .kind)) h

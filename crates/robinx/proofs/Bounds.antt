@@ -9,12 +9,15 @@ use native.Mathlib.Nat.{mul-le-mul-right, mul-le-mul-left, mul-le-mul, le-trans,
 use lib.Dec.{eqb, ltb}
 use lib.ListN.{length, getD}
 use Rattle.robinx.specs.Sums.{sumTo, catTo, only, onlyL}
+use Rattle.robinx.specs.Season.{slotsOf, mostTeams, mostSlots, mostByte}
 use Rattle.robinx.specs.Groups.{has, size, isPair, pairs}
 use Rattle.robinx.specs.Timetable.{X, side, homeSide, awaySide, firstModes, gamesWith, gamesIn, gamesAgainst, gamesUpTo, between, gamesBetween, breakOn, breaksIn, meet}
-use Rattle.robinx.specs.Kinds.{Kind, kindOf}
-use Rattle.robinx.specs.Deviations.{each, eachPair, over, worst, offTarget, devCA1, devCA2, inRun, devCA3, devCA4, devGA1, breaks, devBR1, devBR2, devFA1, devFA2, tooClose, devSE1, deviationsOf, deviations, entriesOf, entries}
+use Rattle.robinx.specs.Kinds.{Kind, kindOf, formAt}
+use Rattle.robinx.specs.Deviations.{each, eachPair, over, worst, offTarget, devCA1, devCA2, inRun, devCA3, devCA4, devGA1, breaks, devBR1, devBR2, devFA1, devFA2, tooClose, devSE1, deviationsOf, deviations, inShape, entries}
 use Rattle.robinx.specs.Penalty.{sum, sumOfSquares, largest, smallest, combine, penalty}
 use Rattle.robinx.specs.declared.Constraint.{Constraint}
+use Rattle.robinx.specs.declared.Shape.{Shape}
+use Rattle.robinx.specs.declared.Shape.the-variants.{Nothing, One, EachTeam, EachPair, OneOrEachSlot}
 use Rattle.robinx.proofs.Sums.{only-le, only-bound, sum-le, sum-bound, max-bound, sum-scale, sum-swap}
 use Rattle.robinx.proofs.Sizes.{size-le, pairs-size}
 
@@ -92,32 +95,27 @@ unfolding eachPair
 eachPair-bound n T f = sum-cat-le _ n (λ i li. sum-cat-le _ n (λ j lj. sum-only-le (isPair T i j) (f i j)))
 
 -- How many deviations there are.
-pub pairs-small : (n T : ℕ) → n ≤ 32 → pairs n T ≤ 496
+pub pairs-small : (n T : ℕ) → n ≤ mostTeams → pairs n T ≤ 496
 pairs-small n T h = go (size n T) (pairs-size T n) (omega (arith, size-le T n))
   where
-    go : (s : ℕ) → 2 * pairs n T + s ≡ s * s → s ≤ 32 → pairs n T ≤ 496
+    go : (s : ℕ) → 2 * pairs n T + s ≡ s * s → s ≤ mostTeams → pairs n T ≤ 496
     go zero e l = omega arith
     go (suc r) e l = let z : r ≤ 31 = omega arith in omega (arith, mul-le-mul z l)
 
-module _ (n P : ℕ) (teams : n ≤ 32) (slots : P ≤ 64) (c : Constraint) where
-  entriesOf-small : (k : Kind) → entriesOf k n P c ≤ 496
-  entriesOf-small Kind.CA1 = omega (arith, size-le (c .t1) n)
-  entriesOf-small Kind.CA2 = omega (arith, size-le (c .t1) n)
-  entriesOf-small Kind.CA3 = omega (arith, size-le (c .t1) n)
-  entriesOf-small Kind.CA4 = cond-le (λ (v : ℕ). v) (firstModes (c .mode)) 1 (size P (c .s)) (omega arith) (omega (arith, size-le (c .s) P))
-  entriesOf-small Kind.GA1 = omega arith
-  entriesOf-small Kind.BR1 = omega (arith, size-le (c .t1) n)
-  entriesOf-small Kind.BR2 = omega arith
-  entriesOf-small Kind.FA1 = omega (arith, size-le (c .t1) n)
-  entriesOf-small Kind.FA2 = pairs-small n (c .t1) teams
-  entriesOf-small Kind.SE1 = pairs-small n (c .t1) teams
-  entriesOf-small Kind.unknown = omega arith
+module _ (n P : ℕ) (teams : n ≤ mostTeams) (slots : P ≤ mostSlots) (c : Constraint) where
+  shape-small : (h : Shape) → inShape h n P c ≤ 496
+  shape-small Nothing = omega arith
+  shape-small One = omega arith
+  shape-small EachTeam = omega (arith, size-le (c .t1) n)
+  shape-small EachPair = pairs-small n (c .t1) teams
+  shape-small OneOrEachSlot =
+      cond-le (λ (v : ℕ). v) (firstModes (c .mode)) 1 (size P (slotsOf c)) (omega arith) (omega (arith, size-le (slotsOf c) P))
 
   pub entries-small : entries n P c ≤ 496
   unfolding entries
-  entries-small = entriesOf-small (kindOf (c .kind))
+  entries-small = shape-small (formAt (c .kind) .shape)
 
-module _ (n P : ℕ) (teams : n ≤ 32) (slots : P ≤ 64) (x : X)
+module _ (n P : ℕ) (teams : n ≤ mostTeams) (slots : P ≤ mostSlots) (x : X)
     (valid : (t k : ℕ) → t < n → k < P → sumTo (λ j. x t j k + x j t k) n ≤ 1) where
   gamesWith-le : (d t j k : ℕ) → gamesWith x d t j k ≤ x t j k + x j t k
   unfolding gamesWith
@@ -135,7 +133,7 @@ module _ (n P : ℕ) (teams : n ≤ 32) (slots : P ≤ 64) (x : X)
   unfolding gamesUpTo
   gamesUpTo-le d T t s lt ls = omega (arith, sum-bound s 1 (λ k l. gamesAgainst-le d T t k lt (omega arith)))
 
-  pub gamesBetween-le : (d T1 T2 k : ℕ) → k < P → gamesBetween n x d T1 T2 k ≤ 32
+  pub gamesBetween-le : (d T1 T2 k : ℕ) → k < P → gamesBetween n x d T1 T2 k ≤ mostTeams
   unfolding gamesBetween
   gamesBetween-le d T1 T2 k lk =
       omega (arith, sum-bound n 1 (λ i li. le-trans (sum-le n (λ j lj. row i j)) (valid i k li lk)))
@@ -153,7 +151,7 @@ module _ (n P : ℕ) (teams : n ≤ 32) (slots : P ≤ 64) (x : X)
   close-le w (suc m) b {v} h = only-bound (ltb 0 (suc m) && b) (omega arith)
 
   -- a team's meetings with all others are its games
-  closeness-le : (w i : ℕ) → i < n → sumTo (λ j. sumTo (tooClose (meet x i j) w) P) n ≤ 64 * w
+  closeness-le : (w i : ℕ) → i < n → sumTo (λ j. sumTo (tooClose (meet x i j) w) P) n ≤ mostSlots * w
   unfolding tooClose meet
   closeness-le w i li =
       le-trans (sum-le n (λ j lj. sum-le P (λ k lk. close-le w (x i j k + x j i k) _ (omega arith))))
@@ -166,13 +164,13 @@ module _ (n P : ℕ) (teams : n ≤ 32) (slots : P ≤ 64) (x : X)
     abbrev d : ℕ
     d = side (c .mode)
 
-    over-le : (B : ℕ) {f : ℕ → ℕ} → ((k : ℕ) → k < P → f k ≤ B) → over P (c .s) f ≤ 64 * B
+    over-le : (B : ℕ) {f : ℕ → ℕ} → ((k : ℕ) → k < P → f k ≤ B) → over P (slotsOf c) f ≤ mostSlots * B
     unfolding over
-    over-le B h = le-trans (sum-bound P B (λ k l. only-bound (has (c .s) k) (h k l))) (mul-le-mul-right B slots)
+    over-le B h = le-trans (sum-bound P B (λ k l. only-bound (has (slotsOf c) k) (h k l))) (mul-le-mul-right B slots)
 
-    worst-le : {f : ℕ → ℕ} → ((k : ℕ) → k < P → f k ≤ 64) → worst P (c .s) f ≤ 64
+    worst-le : {f : ℕ → ℕ} → ((k : ℕ) → k < P → f k ≤ mostSlots) → worst P (slotsOf c) f ≤ mostSlots
     unfolding worst
-    worst-le h = max-bound P 64 (λ k l. only-bound (has (c .s) k) (h k l))
+    worst-le h = max-bound P mostSlots (λ k l. only-bound (has (slotsOf c) k) (h k l))
 
     breaks-le : (t : ℕ) → breaks n P c x t ≤ 128
     unfolding breaks
@@ -183,8 +181,8 @@ module _ (n P : ℕ) (teams : n ≤ 32) (slots : P ≤ 64) (x : X)
     off-le false B h l = omega arith
 
     -- a number a team, each at most what CA3 may add up
-    teams-le : (T : ℕ) {f : ℕ → ℕ} → ((t : ℕ) → t < n → f t ≤ 65 * 255) → sum (each n T f) ≤ 530400
-    teams-le T h = omega (arith, each-bound n T (65 * 255) h)
+    teams-le : (T : ℕ) {f : ℕ → ℕ} → ((t : ℕ) → t < n → f t ≤ 65 * mostByte) → sum (each n T f) ≤ 530400
+    teams-le T h = omega (arith, each-bound n T (65 * mostByte) h)
 
     boundOf : (k : Kind) → sum (deviationsOf k n P c x) ≤ 530400
     unfolding deviationsOf devCA1 devCA2 inRun devCA3 devCA4 devGA1 devBR1 devBR2 devFA1 devFA2 devSE1 sum
@@ -195,14 +193,14 @@ module _ (n P : ℕ) (teams : n ≤ 32) (slots : P ≤ 64) (x : X)
         (omega arith))
     boundOf Kind.CA4 =
         cond-le sum (firstModes (c .mode)) _ _
-        (omega (arith, over-le 32 (λ k lk. gamesBetween-le d (c .t1) (c .t2) k lk)))
-        (le-trans (each-bound P (c .s) 255 (λ k lk. omega (arith, gamesBetween-le d (c .t1) (c .t2) k lk))) (omega arith))
-    boundOf Kind.GA1 = omega (arith, over-le 32 (λ k lk. gamesBetween-le homeSide (c .t1) (c .t2) k lk))
-    boundOf Kind.BR1 = teams-le (c .t1) (λ t lt. off-le (firstModes (c .mode)) (65 * 255) (omega (arith, breaks-le t)) (omega arith))
+        (omega (arith, over-le mostTeams (λ k lk. gamesBetween-le d (c .t1) (c .t2) k lk)))
+        (le-trans (each-bound P (slotsOf c) 255 (λ k lk. omega (arith, gamesBetween-le d (c .t1) (c .t2) k lk))) (omega arith))
+    boundOf Kind.GA1 = omega (arith, over-le mostTeams (λ k lk. gamesBetween-le homeSide (c .t1) (c .t2) k lk))
+    boundOf Kind.BR1 = teams-le (c .t1) (λ t lt. off-le (firstModes (c .mode)) (65 * mostByte) (omega (arith, breaks-le t)) (omega arith))
     boundOf Kind.BR2 =
         omega (
           arith,
-          off-le (firstModes (c .mode)) (32 * 128)
+          off-le (firstModes (c .mode)) (mostTeams * 128)
               (le-trans (sum-bound n 128 (λ t lt. only-bound (has (c .t1) t) (breaks-le t))) (omega arith)) (omega arith),
         )
     boundOf Kind.FA1 =
@@ -210,11 +208,11 @@ module _ (n P : ℕ) (teams : n ≤ 32) (slots : P ≤ 64) (x : X)
         omega (arith, gamesUpTo-le homeSide (c .t1) t (suc k) lt lk, gamesUpTo-le awaySide (c .t1) t (suc k) lt lk))) (omega arith))
     boundOf Kind.FA2 =
         le-trans (eachPair-bound n (c .t1) _)
-        (le-trans (sum-bound n (32 * 64) (λ i li. le-trans (sum-bound n 64 (λ j lj. worst-le (λ k lk.
+        (le-trans (sum-bound n (mostTeams * mostSlots) (λ i li. le-trans (sum-bound n mostSlots (λ j lj. worst-le (λ k lk.
         omega (arith, gamesUpTo-le d (c .t1) i (suc k) li lk, gamesUpTo-le d (c .t1) j (suc k) lj lk)))) (omega arith))) (omega arith))
     boundOf Kind.SE1 =
         le-trans (eachPair-bound n (c .t1) _)
-        (le-trans (sum-bound n (64 * 255) (λ i li. omega (arith, closeness-le (c .w) i li))) (omega arith))
+        (le-trans (sum-bound n (mostSlots * mostByte) (λ i li. omega (arith, closeness-le (c .w) i li))) (omega arith))
     boundOf Kind.unknown = omega arith
 
     pub sum-small : sum (deviations n P c x) ≤ 530400

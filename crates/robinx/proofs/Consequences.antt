@@ -1,26 +1,25 @@
--- Consequences worth a name: a refused call changes nothing, a set to the slot that a game has changes nothing, and exchanging the
--- games (i, j) and (j, i) is a home-away swap.
+-- Consequences worth a name: a set to the slot that a game has changes nothing, and exchanging the games (i, j) and (j, i) is a home-away
+-- swap.
 use mathlib.Core.Path.{_≡_, refl, sym, ap, ap₂, _∙_}
 use mathlib.Core.List.{List, [], _∷_, _++_, append-assoc}
 use mathlib.Core.Logic.{_≢_}
-use mathlib.Core.Bool.{Bool, true, false, _&&_, _||_, not, cond, true≢false, false≢true}
-use Prim.Native.Nat.{ℕ, zero, suc, _+_, _-_, _%_, _^_, _<_, _≤_}
+use mathlib.Core.Bool.{Bool, false, _&&_, not, cond}
+use Prim.Native.Nat.{ℕ, zero, suc, _+_, _^_, _<_, _≤_}
 use native.Mathlib.Omega.{arith}
 use native.Mathlib.Decide.{ℕ-discrete}
 use native.Mathlib.Numerals.{add-one}
-use native.Mathlib.Nat.{mod-eq-of-lt, add-zero}
 use lib.Dec.{eqb}
-use lib.IntN.{ℤ, pos}
-use lib.ListN.{length, getD, set, take, drop, length-set}
+use lib.IntN.{pos}
+use lib.ListN.{length, getD, set, take, length-set}
 use lib.Seq.{set-getD, take-add, take-all, take-suc, getD-set-same, getD-set-other}
 use borrow.Author.Tests.{eq-eqb, ne-eqb, lt-leb, le-ltb}
 use Rattle.robinx.specs.Sums.{sumTo, catTo, listTo, only}
 use Rattle.robinx.specs.Season.{Instance, decode}
 use Rattle.robinx.specs.Timetable.{X, isAt, meetings}
-use Rattle.robinx.specs.Touch.{hits, touches}
+use Rattle.robinx.specs.Touch.{touches}
 use Rattle.robinx.specs.Books.{timetable, deviationsAt, penaltyAt, entriesAt, startAt, allEntries, isHard, isSoft, verdict}
 use Rattle.robinx.specs.Refusals.{firstTrue, sentence9, sentence10, sentence13}
-use Rattle.robinx.specs.Calls.{Outcome, outcome, accepted, declined, unlessRefused, opened, openFault, openCall, Call, moved, touched, stretchAt, gained, lost, change, movedTotal, reworked, callFault, setCall, exchangeCall}
+use Rattle.robinx.specs.Calls.{buffers, outcome, accepted, Call, moved, touched, stretchAt, gained, lost, change, movedTotal, reworked, callOn, setCall}
 use Rattle.robinx.specs.PlainSheet.{plainFault}
 use Rattle.robinx.specs.declared.Constraint.{Constraint}
 use Rattle.robinx.proofs.Sums.{sum-zero}
@@ -28,31 +27,6 @@ use Rattle.robinx.proofs.Ext.{sum-ext, cat-ext}
 use Rattle.robinx.proofs.Passed.{Passed, call-passes}
 use Rattle.robinx.proofs.Accepted.{low, no-clash}
 use Rattle.robinx.proofs.Demand3.{lengths}
-
--- the buffers of an outcome are these
-abbrev pub Leaves : Outcome → List ℕ → List ℕ → List ℕ → Type 0
-Leaves o sheet ledger tally = (o .sheet ≡ sheet) × (o .ledger ≡ ledger) × (o .tally ≡ tally)
-
-refused : (f : ℕ) (done : Outcome) (sheet ledger tally : List ℕ) → done .reply .declined ≡ false
-    → unlessRefused f done sheet ledger tally .reply .declined ≡ true → Leaves (unlessRefused f done sheet ledger tally) sheet ledger tally
-refused zero done sheet ledger tally e h = absurd (true≢false (sym h ∙ e))
-refused (suc f) done sheet ledger tally e h = (refl, refl, refl)
-
-module _ (season sheet ledger tally : List ℕ) where
-  pub refused-open-changes-nothing : openCall season sheet ledger tally .reply .declined ≡ true
-      → Leaves (openCall season sheet ledger tally) sheet ledger tally
-  unfolding openCall opened
-  refused-open-changes-nothing h = refused (openFault season sheet ledger tally) _ sheet ledger tally refl h
-
-  pub refused-set-changes-nothing : (g s : ℕ) → setCall season sheet ledger tally g s .reply .declined ≡ true
-      → Leaves (setCall season sheet ledger tally g s) sheet ledger tally
-  unfolding setCall reworked
-  refused-set-changes-nothing g s h = refused (callFault season sheet ledger tally (Call.setSlot g s)) _ sheet ledger tally refl h
-
-  pub refused-exchange-changes-nothing : (g h : ℕ) → exchangeCall season sheet ledger tally g h .reply .declined ≡ true
-      → Leaves (exchangeCall season sheet ledger tally g h) sheet ledger tally
-  unfolding exchangeCall reworked
-  refused-exchange-changes-nothing g h e = refused (callFault season sheet ledger tally (Call.exchange g h)) _ sheet ledger tally refl e
 
 -- A ledger is its stretches end to end, and a tally its C penalties and two totals.
 stretches : (m : Instance) (ledger : List ℕ) (k : ℕ) → catTo (stretchAt m ledger) k ≡ take (startAt m k) ledger
@@ -94,7 +68,8 @@ module _ (m : Instance) (sheet ledger tally : List ℕ) (k : Call) (same : moved
   unfolding change gained lost
   no-change want x = omega (arith, nothing want (penaltyAt m x), nothing want (λ c. getD tally c 0))
 
-  pub unchanged : reworked m sheet ledger tally k ≡ outcome (accepted (verdict m sheet (getD tally (m .C) 0)) (pos 0) (pos 0)) sheet ledger tally
+  pub unchanged : reworked m (buffers sheet ledger tally) k
+      ≡ outcome (accepted (verdict m sheet (getD tally (m .C) 0)) (pos 0) (pos 0)) (buffers sheet ledger tally)
   unfolding reworked
   unchanged =
       let hard : movedTotal (getD tally (m .C) 0) 0 ≡ getD tally (m .C) 0 = omega arith in
@@ -123,11 +98,11 @@ module _ (season sheet ledger tally : List ℕ) (p : Passed season sheet (length
   unfolding touched touches
   untouched c = rw (eq-eqb (getD sheet g 0) (getD sheet g 0) refl)
 
-  pub set-to-own-slot-changes-nothing : setCall season sheet ledger tally g (getD sheet g 0)
-      ≡ outcome (accepted (verdict m sheet (getD tally (m .C) 0)) (pos 0) (pos 0)) sheet ledger tally
-  unfolding setCall moved
+  pub set-to-own-slot-changes-nothing : setCall season (buffers sheet ledger tally) g (getD sheet g 0)
+      ≡ outcome (accepted (verdict m sheet (getD tally (m .C) 0)) (pos 0) (pos 0)) (buffers sheet ledger tally)
+  unfolding callOn moved
   set-to-own-slot-changes-nothing =
-      rw (call-passes season sheet ledger tally p stay, accepted-there)
+      rw (call-passes season (buffers sheet ledger tally) p stay, accepted-there)
       (unchanged m sheet ledger tally stay (set-getD sheet g 0) untouched (long .1) (long .2) hard-fits soft-fits)
 
 -- A sum without one of its terms, and two sums that differ by the exchange of two terms.

@@ -1,10 +1,9 @@
--- Demand 3: for every list of set and exchange calls after an accepted opening, sheet, books and replies are those of the plain sheet
--- and a fresh opening of it.
-use mathlib.Core.Path.{_≡_, refl, sym, ap, ap₂, _∙_}
-use mathlib.Core.List.{List, [], _∷_, _++_}
-use mathlib.Core.Bool.{Bool, true, false, _&&_, not, true≢false}
+-- Demand 3: whatever sets and exchanges follow an accepted opening, sheet, books and replies are those of the plain sheet and of a fresh
+-- opening of it.
+use mathlib.Core.Path.{_≡_, refl, sym, ap, _∙_}
+use mathlib.Core.List.{List, [], _∷_}
+use mathlib.Core.Bool.{Bool, false, _&&_}
 use Prim.Native.Nat.{ℕ, zero, suc, _+_, _^_, _<_}
-use native.Mathlib.Omega.{arith}
 use lib.Dec.{eqb}
 use lib.IntN.{ℤ, pos, _+ℤ_, +ℤ-idl, +ℤ-idr, +ℤ-assoc}
 use lib.ListN.{length, getD}
@@ -12,20 +11,19 @@ use mir.Syntax.{w64}
 use mir.Val.{toZ}
 use borrow.Author.Tests.{eqb-true, not-false}
 use Rattle.robinx.specs.Season.{Instance, decode}
-use Rattle.robinx.specs.Timetable.{X, clash}
 use Rattle.robinx.specs.Penalty.{penalty}
 use Rattle.robinx.specs.Books.{timetable, isHard, isSoft, allEntries, total, freshLedger, freshTally}
 use Rattle.robinx.specs.Refusals.{sentence7}
-use Rattle.robinx.specs.Calls.{Outcome, outcome, Call, declined, unlessRefused, openFault, opened, openCall, callFault, setCall, exchangeCall, moved, touched, stretchAt, reworked, change}
+use Rattle.robinx.specs.Calls.{Buffers, freshBuffers, Outcome, Call, declined, unlessRefused, opened, openCall, callOn, moved, touched, stretchAt, reworked, change}
 use Rattle.robinx.specs.PlainSheet.{plainFault, unlessFault, plainNext, plainAfter, changes}
-use Rattle.robinx.specs.Demand3.{next, last, added, afresh, Fresh, Answers, Keeps, Right, AllRight, AddsUp, Demand3}
+use Rattle.robinx.specs.Demands.{next, last, added, afresh, Fresh, Answers, Keeps, AllRight, AddsUp, Demand3}
 use Rattle.robinx.specs.declared.Constraint.{Constraint}
 use Rattle.robinx.specs.declared.Reply.{Reply}
 use Rattle.robinx.proofs.Sums.{and-yes}
 use Rattle.robinx.proofs.Lengths.{length-ledger, length-tally, stretch-fresh}
 use Rattle.robinx.proofs.Change.{Good, call-kept}
 use Rattle.robinx.proofs.Limits.{sound, decode-home, total-small}
-use Rattle.robinx.proofs.Passed.{Passed, passed, open-passes, call-passes}
+use Rattle.robinx.proofs.Passed.{Passed, open-no-fault, passed, open-passes, call-passes}
 use Rattle.robinx.proofs.Accepted.{length-moved, no-clash, good, opens-again}
 use Rattle.robinx.proofs.Kept.{penalty-held, hard-held, soft-held, freshAfter, books-fresh, total-adds}
 
@@ -44,9 +42,7 @@ module _ (season : List ℕ) (small : (plain : List ℕ) (L T : ℕ) → Passed 
 
   -- The invariant: the buffers are the plain sheet with its fresh books, and the plain sheet opens.
   record Held (plain : List ℕ) (o : Outcome) : Type 0 where
-    sheet : o .sheet ≡ plain
-    ledger : o .ledger ≡ freshLedger m plain
-    tally : o .tally ≡ freshTally m plain
+    books : o .left ≡ freshBuffers m plain
     passes : Passed season plain (allEntries m) (m .C + 2)
 
   -- what is held passes with the lengths of its books
@@ -54,40 +50,33 @@ module _ (season : List ℕ) (small : (plain : List ℕ) (L T : ℕ) → Passed 
       → Passed season plain (length (freshLedger m plain)) (length (freshTally m plain))
   books-pass plain p = rw (length-ledger m plain, length-tally m plain) p
 
-  open-is : (sheet ledger tally : List ℕ) → Passed season sheet (length ledger) (length tally)
-      → openCall season sheet ledger tally ≡ opened m sheet
+  open-is : (b : Buffers) → Passed season (b .sheet) (length (b .ledger)) (length (b .tally)) → openCall season b ≡ opened m (b .sheet)
   unfolding openCall
-  open-is sheet ledger tally p = rw (open-passes season sheet ledger tally p)
+  open-is b p = rw (open-passes season b p)
 
   afresh-is : (plain : List ℕ) (o : Outcome) → Held plain o → afresh season plain o ≡ opened m plain
-  afresh-is plain o h = rw (h .ledger, h .tally) (open-is plain (freshLedger m plain) (freshTally m plain) (books-pass plain (h .passes)))
+  afresh-is plain o h = rw (h .books) (open-is (freshBuffers m plain) (books-pass plain (h .passes)))
 
   held-fresh : (plain : List ℕ) (o : Outcome) → Held plain o → Fresh season plain o
   unfolding opened
   held-fresh plain o h =
       let a = afresh-is plain o h in
       record {
-        sheet = h .sheet;
+        sheet = ap (λ (b : Buffers). b .sheet) (h .books);
         opens = ap (λ (o : Outcome). o .reply .declined) a;
-        ledger = h .ledger ∙ sym (ap (λ (o : Outcome). o .ledger) a);
-        tally = h .tally ∙ sym (ap (λ (o : Outcome). o .tally) a);
+        ledger = ap (λ (b : Buffers). b .ledger) (h .books) ∙ sym (ap (λ (o : Outcome). o .left .ledger) a);
+        tally = ap (λ (b : Buffers). b .tally) (h .books) ∙ sym (ap (λ (o : Outcome). o .left .tally) a);
       }
 
   -- An opening that is not declined fills the books, and holds.
-  opens : (sheet ledger tally : List ℕ) → openCall season sheet ledger tally .reply .declined ≡ false
-      → Passed season sheet (length ledger) (length tally)
-  unfolding openCall
-  opens sheet ledger tally h = passed season sheet ledger tally (go (openFault season sheet ledger tally) h)
-    where
-      go : (f : ℕ) → unlessRefused f (opened m sheet) sheet ledger tally .reply .declined ≡ false → f ≡ 0
-      go zero d = refl
-      go (suc f) d = absurd (true≢false d)
+  opens : (b : Buffers) → openCall season b .reply .declined ≡ false → Passed season (b .sheet) (length (b .ledger)) (length (b .tally))
+  opens b h = passed season b (open-no-fault season b h)
 
-  opening : (sheet ledger tally : List ℕ) → Passed season sheet (length ledger) (length tally) → Held sheet (opened m sheet)
+  opening : (b : Buffers) → Passed season (b .sheet) (length (b .ledger)) (length (b .tally)) → Held (b .sheet) (opened m (b .sheet))
   unfolding opened
-  opening sheet ledger tally p =
-      let l = lengths m (length sheet) (length ledger) (length tally) (p .s7) in
-      record { sheet = refl; ledger = refl; tally = refl; passes = rw (← l .1, ← l .2) p }
+  opening b p =
+      let l = lengths m (length (b .sheet)) (length (b .ledger)) (length (b .tally)) (p .s7) in
+      record { books = refl; passes = rw (← l .1, ← l .2) p }
 
   module _ (plain : List ℕ) (o : Outcome) (h : Held plain o) (k : Call) where
     abbrev f : ℕ
@@ -98,22 +87,11 @@ module _ (season : List ℕ) (small : (plain : List ℕ) (L T : ℕ) → Passed 
 
     -- the call, on the plain sheet with its fresh books
     abbrev result : ℕ → Outcome
-    result r =
-        unlessRefused r (reworked m plain (freshLedger m plain) (freshTally m plain) k) plain (freshLedger m plain) (freshTally m plain)
+    result r = unlessRefused r (reworked m (freshBuffers m plain) k) (freshBuffers m plain)
 
     next-is : next season o k ≡ result f
-    unfolding next setCall exchangeCall
-    next-is = split k
-      where
-        pass : Passed season plain (length (freshLedger m plain)) (length (freshTally m plain))
-        pass = books-pass plain (h .passes)
-
-        split : (k : Call) → next season o k
-            ≡ unlessRefused (plainFault m plain k) (reworked m plain (freshLedger m plain) (freshTally m plain) k) plain (freshLedger m plain) (freshTally m plain)
-        split (Call.setSlot g s) =
-            rw (h .sheet, h .ledger, h .tally, call-passes season plain (freshLedger m plain) (freshTally m plain) pass (Call.setSlot g s))
-        split (Call.exchange g h′) =
-            rw (h .sheet, h .ledger, h .tally, call-passes season plain (freshLedger m plain) (freshTally m plain) pass (Call.exchange g h′))
+    unfolding callOn
+    next-is = rw (h .books, call-passes season (freshBuffers m plain) (books-pass plain (h .passes)) k)
 
     -- the sheet after the call opens, and its totals are small
     passes-again : f ≡ 0 → Passed season (moved plain k) (allEntries m) (m .C + 2)
@@ -144,8 +122,8 @@ module _ (season : List ℕ) (small : (plain : List ℕ) (L T : ℕ) → Passed 
     held-next = rw next-is (go f refl)
       where
         go : (r : ℕ) → f ≡ r → Held (unlessFault r (moved plain k) plain) (result r)
-        go zero e = rw (fresh e) (record { sheet = refl; ledger = refl; tally = refl; passes = passes-again e })
-        go (suc r) e = record { sheet = refl; ledger = refl; tally = refl; passes = h .passes }
+        go zero e = rw (fresh e) (record { books = refl; passes = passes-again e })
+        go (suc r) e = record { books = refl; passes = h .passes }
 
     answers : Answers f (next season o k .reply) (afresh season (plainNext m plain k) (next season o k) .reply .number)
     unfolding plainNext opened
@@ -157,11 +135,11 @@ module _ (season : List ℕ) (small : (plain : List ℕ) (L T : ℕ) → Passed 
 
     keeps : Keeps m (changes m plain k) o (next season o k)
     unfolding changes
-    keeps c l e = rw (next-is, h .ledger, h .tally) (go f refl e)
+    keeps c l e = rw (next-is, h .books) (go f refl e)
       where
         go : (r : ℕ) → f ≡ r → eqb r 0 && touched m plain k c ≡ false
-            → (stretchAt m (result r .ledger) c ≡ stretchAt m (freshLedger m plain) c)
-            × (getD (result r .tally) c 0 ≡ getD (freshTally m plain) c 0)
+            → (stretchAt m (result r .left .ledger) c ≡ stretchAt m (freshLedger m plain) c)
+            × (getD (result r .left .tally) c 0 ≡ getD (freshTally m plain) c 0)
         go zero e t =
             let s = sym (call-kept m plain k c (good-call e) t) in
             rw (fresh e) (
@@ -215,23 +193,24 @@ module _ (season : List ℕ) (small : (plain : List ℕ) (L T : ℕ) → Passed 
       → ((r : ℕ) → d (declined r) ≡ pos 0)
       → ((plain : List ℕ) → getD (freshTally m plain) at 0 ≡ total want m (timetable m plain))
       → (sheet : List ℕ) (o : Outcome) → Held sheet o → d (o .reply) ≡ pos (total want m (timetable m sheet))
-      → (ks : List Call) → added d season o ks ≡ pos (getD (last season o ks .tally) at 0)
+      → (ks : List Call) → added d season o ks ≡ pos (getD (last season o ks .left .tally) at 0)
   adds-up d want at new none holds sheet o h e ks =
       sym (+ℤ-idl _)
       ∙ adds d (λ s. total want m (timetable m s)) (λ plain o h k. total-change plain o h k d want (new plain k) none) sheet o h (pos 0) (+ℤ-idl _ ∙ e) ks
-      ∙ ap pos (sym (rw (held-last sheet o h ks .tally) (holds (plainAfter m sheet ks))))
+      ∙ ap pos (sym (rw (held-last sheet o h ks .books) (holds (plainAfter m sheet ks))))
 
-  pub proved : (sheet ledger tally : List ℕ) → openCall season sheet ledger tally .reply .declined ≡ false → (calls : List Call)
-      → Fresh season sheet (openCall season sheet ledger tally)
-      × AllRight season sheet (openCall season sheet ledger tally) calls
-      × Fresh season (plainAfter m sheet calls) (last season (openCall season sheet ledger tally) calls)
-      × AddsUp season (openCall season sheet ledger tally) calls
+  pub proved : (b : Buffers) → openCall season b .reply .declined ≡ false → (calls : List Call)
+      → Fresh season (b .sheet) (openCall season b)
+      × AllRight season (b .sheet) (openCall season b) calls
+      × Fresh season (plainAfter m (b .sheet) calls) (last season (openCall season b) calls)
+      × AddsUp season (openCall season b) calls
   unfolding opened
-  proved sheet ledger tally accepted calls =
-      let p = opens sheet ledger tally accepted in
-      let h = opening sheet ledger tally p in
+  proved b accepted calls =
+      let sheet = b .sheet in
+      let p = opens b accepted in
+      let h = opening b p in
       let o = opened m sheet in
-      rw (open-is sheet ledger tally p) (
+      rw (open-is b p) (
         held-fresh sheet o h,
         all-right sheet o h calls,
         held-fresh _ _ (held-last sheet o h calls),
@@ -249,4 +228,4 @@ small season plain L T p want =
     total-small m (sound m (p .s2) (p .s4) (p .s5)) (decode-home season (p .s3)) plain (no-clash m plain (lengths m _ _ _ (p .s7) .0) (p .s8)) want
 
 pub demand-3 : Demand3
-demand-3 season sheet ledger tally accepted calls = proved season (small season) sheet ledger tally accepted calls
+demand-3 season b accepted calls = proved season (small season) b accepted calls

@@ -13,7 +13,7 @@ use Rattle.robinx.specs.Season.{Instance}
 use Rattle.robinx.specs.Timetable.{X, clash}
 use Rattle.robinx.specs.Penalty.{penalty}
 use Rattle.robinx.specs.Books.{timetable, deviationsAt, penaltyAt, entriesAt, isHard, isSoft, total, freshLedger, freshTally, verdict}
-use Rattle.robinx.specs.Calls.{Outcome, outcome, accepted, Call, moved, touched, stretchAt, reworkedStretch, reworkedPenalty, change, movedTotal, reworked}
+use Rattle.robinx.specs.Calls.{Outcome, outcome, freshBuffers, accepted, Call, moved, touched, stretchAt, reworkedStretch, reworkedPenalty, change, movedTotal, reworked}
 use Rattle.robinx.specs.declared.Constraint.{Constraint}
 use Rattle.robinx.proofs.Ext.{cat-ext}
 use Rattle.robinx.proofs.Lengths.{stretch-fresh, list-at, list-beyond}
@@ -44,9 +44,7 @@ freshAfter m sheet k =
     (verdict m after (total isHard m y))
     (toZ w64 (change isHard m (touched m sheet k) y (freshTally m sheet)))
     (toZ w64 (change isSoft m (touched m sheet k) y (freshTally m sheet))))
-    after
-    (freshLedger m after)
-    (freshTally m after)
+    (freshBuffers m after)
 
 module _ (m : Instance) (sheet : List ℕ) (k : Call) (good : Good sheet k) where
   abbrev after : List ℕ
@@ -85,7 +83,7 @@ module _ (m : Instance) (sheet : List ℕ) (k : Call) (good : Good sheet k) wher
         → movedTotal (getD (freshTally m sheet) at 0) (change want m t y (freshTally m sheet)) ≡ total want m y
     total-fresh want at e = rw e (total-moved m t x y same (freshTally m sheet) (penalty-held m sheet) want (before want) (later want))
 
-    pub books-fresh : reworked m sheet (freshLedger m sheet) (freshTally m sheet) k ≡ freshAfter m sheet k
+    pub books-fresh : reworked m (freshBuffers m sheet) k ≡ freshAfter m sheet k
     unfolding reworked freshTally
     books-fresh =
         rw (ledger-fresh, penalties-fresh, total-fresh isHard (m .C) (hard-held m sheet), total-fresh isSoft (m .C + 1) (soft-held m sheet))

@@ -9,10 +9,10 @@ use lib.ListN.{length, length-append, getD, take, drop}
 use lib.Seq.{getD-append-add, getD-at, take-at, drop-at}
 use Rattle.robinx.specs.Sums.{sumTo, catTo, listTo, only, onlyL}
 use Rattle.robinx.specs.Groups.{has, size, isPair, pairs}
-use Rattle.robinx.specs.Season.{Instance}
+use Rattle.robinx.specs.Season.{Instance, slotsOf}
 use Rattle.robinx.specs.Timetable.{X, firstModes}
-use Rattle.robinx.specs.Kinds.{Kind, kindOf}
-use Rattle.robinx.specs.Deviations.{each, eachPair, devCA1, devCA2, devCA3, devCA4, devGA1, devBR1, devBR2, devFA1, devFA2, devSE1, deviationsOf, deviations, entriesOf, entries}
+use Rattle.robinx.specs.Kinds.{Kind, kindOf, formOf, formAt}
+use Rattle.robinx.specs.Deviations.{each, eachPair, devCA1, devCA2, devCA3, devCA4, devGA1, devBR1, devBR2, devFA1, devFA2, devSE1, deviationsOf, deviations, inShape, entries}
 use Rattle.robinx.specs.Books.{timetable, deviationsAt, penaltyAt, entriesAt, startAt, allEntries, freshLedger, freshTally}
 use Rattle.robinx.specs.Calls.{stretchAt}
 use Rattle.robinx.specs.declared.Constraint.{Constraint}
@@ -75,12 +75,12 @@ length-cond : (b : Bool) (a : ℕ) (l : List ℕ) → length (cond b (a ∷ []) 
 length-cond true a l = refl
 length-cond false a l = refl
 
-lengthOf : (k : Kind) (n P : ℕ) (c : Constraint) (x : X) → length (deviationsOf k n P c x) ≡ entriesOf k n P c
-unfolding deviationsOf devCA1 devCA2 devCA3 devCA4 devGA1 devBR1 devBR2 devFA1 devFA2 devSE1
+lengthOf : (k : Kind) (n P : ℕ) (c : Constraint) (x : X) → length (deviationsOf k n P c x) ≡ inShape (formOf k .shape) n P c
+unfolding formOf deviationsOf devCA1 devCA2 devCA3 devCA4 devGA1 devBR1 devBR2 devFA1 devFA2 devSE1
 lengthOf Kind.CA1 n P c x = length-each n (c .t1) _
 lengthOf Kind.CA2 n P c x = length-each n (c .t1) _
 lengthOf Kind.CA3 n P c x = length-each n (c .t1) _
-lengthOf Kind.CA4 n P c x = length-cond (firstModes (c .mode)) _ _ ∙ ap (cond (firstModes (c .mode)) 1) (length-each P (c .s) _)
+lengthOf Kind.CA4 n P c x = length-cond (firstModes (c .mode)) _ _ ∙ ap (cond (firstModes (c .mode)) 1) (length-each P (slotsOf c) _)
 lengthOf Kind.GA1 n P c x = refl
 lengthOf Kind.BR1 n P c x = length-each n (c .t1) _
 lengthOf Kind.BR2 n P c x = refl
@@ -90,7 +90,7 @@ lengthOf Kind.SE1 n P c x = length-eachPair n (c .t1) _
 lengthOf Kind.unknown n P c x = refl
 
 pub length-deviations : (n P : ℕ) (c : Constraint) (x : X) → length (deviations n P c x) ≡ entries n P c
-unfolding deviations entries
+unfolding deviations entries formAt
 length-deviations n P c x = lengthOf (kindOf (c .kind)) n P c x
 
 -- The fresh books.

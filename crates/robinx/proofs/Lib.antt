@@ -1,9 +1,13 @@
 pub mod All
 pub mod SeasonA
 pub mod Cases
+pub mod KindCases
 pub mod Sums
 pub mod Ext
 pub mod Sizes
+pub mod Bits
+pub mod SetBits
+pub mod Stops
 pub mod Lengths
 pub mod Filled
 pub mod Agree
@@ -16,6 +20,8 @@ pub mod Moved
 pub mod Passed
 pub mod Accepted
 pub mod Kept
+pub mod Demand1
 pub mod Demand3
+pub mod Demand2
 pub mod Consequences
-pub mod Feasible
+pub mod Ties

@@ -1,5 +1,5 @@
 -- What a season that no sentence refuses gives: its sizes, teams and constraints are in their ranges, and so its figures are small.
-use mathlib.Core.Path.{_≡_}
+use mathlib.Core.Path.{_≡_, subst}
 use mathlib.Core.Logic.{_≢_}
 use mathlib.Core.List.{List}
 use mathlib.Core.Bool.{Bool, true, false, _||_, not}
@@ -12,57 +12,79 @@ use lib.Seq.{length-take-le}
 use borrow.Author.Tests.{eqb-true, eqb-false, leb-true, leb-false, ltb-false, not-false}
 use Rattle.robinx.specs.Sums.{sumTo, only}
 use Rattle.robinx.specs.Groups.{size}
-use Rattle.robinx.specs.Season.{Instance, decode, games, constraints, seasonLength, homeTeams, awayTeams, mostByte}
+use Rattle.robinx.specs.Season.{Instance, decode, games, constraints, seasonLength, homeTeams, awayTeams, mostByte, slotsOf, mostTeams, mostSlots, mostGames, mostConstraints}
 use Rattle.robinx.specs.Timetable.{clash}
-use Rattle.robinx.specs.Kinds.{Kind, kindOf}
-use Rattle.robinx.specs.Rules.{formOf, fits, severalTeams, keeps, obeys}
+use Rattle.robinx.specs.Kinds.{Kind, kindOf, asksOf, asksAt}
+use Rattle.robinx.specs.Rules.{fits, asked, holds, functionFits, severalTeams, keeps, obeys}
 use Rattle.robinx.specs.Books.{timetable, deviationsAt, penaltyAt, startAt, total}
 use Rattle.robinx.specs.Refusals.{sentence2, sentence3, encounters, badGame, sentence4, sentence5}
 use Rattle.robinx.specs.declared.Constraint.{Constraint}
-use Rattle.robinx.specs.declared.Form.{Form}
+use Rattle.robinx.specs.declared.Field.{Field}
+use Rattle.robinx.specs.declared.Asks.{Asks}
 use Rattle.robinx.proofs.Sums.{or-no, and-yes, any-none, only-bound, sum-bound}
 use Rattle.robinx.proofs.Valid.{valid}
 use Rattle.robinx.proofs.Bounds.{entries-small, each-small, penalty-small}
 
--- a field in its range
-pub fits-in : (low high v : ℕ) → fits true low high v ≡ true → (low ≤ v) × (v ≤ high)
+-- a number in its range
+pub fits-in : (low high v : ℕ) → fits low high v ≡ true → (low ≤ v) × (v ≤ high)
 fits-in low high v h = let b = and-yes (leb low v) (leb v high) h in (leb-true low v (b .0), leb-true v high (b .1))
 
--- .. is at most its largest value, used or not
-pub fits-le : (used : Bool) (low high v : ℕ) → fits used low high v ≡ true → v ≤ high
-fits-le true low high v h = fits-in low high v h .1
-fits-le false low high v h = omega (arith, eqb-true v 0 h)
+-- a field is at most its largest value, whatever the row asks
+pub holds-le : (f : Field) (kmax high v : ℕ) → holds f kmax high v ≡ true → v ≤ high
+holds-le f kmax high v h = leb-true v high (and-yes (asked f kmax v) (leb v high) h .1)
 
 -- what the constraint's kind asks
-abbrev pub asked : Constraint → Form
-asked c = formOf (kindOf (c .kind))
+abbrev pub asksFor : Constraint → Asks
+asksFor c = asksAt (c .kind)
+
+-- the modes of a kind are some of 1 to 6
+modes-of : (k : Kind) → (1 ≤ asksOf k .first) × (asksOf k .last ≤ 6)
+unfolding asksOf
+modes-of Kind.CA1 = (omega arith, omega arith)
+modes-of Kind.CA2 = (omega arith, omega arith)
+modes-of Kind.CA3 = (omega arith, omega arith)
+modes-of Kind.CA4 = (omega arith, omega arith)
+modes-of Kind.GA1 = (omega arith, omega arith)
+modes-of Kind.BR1 = (omega arith, omega arith)
+modes-of Kind.BR2 = (omega arith, omega arith)
+modes-of Kind.FA1 = (omega arith, omega arith)
+modes-of Kind.FA2 = (omega arith, omega arith)
+modes-of Kind.SE1 = (omega arith, omega arith)
+modes-of Kind.unknown = (omega arith, omega arith)
+
+mode-bounds : (c : Constraint) → fits (asksFor c .first) (asksFor c .last) (c .mode) ≡ true → (1 ≤ c .mode) × (c .mode ≤ 6)
+unfolding asksAt
+mode-bounds c h =
+    let b = fits-in (asksFor c .first) (asksFor c .last) (c .mode) h in
+    let k = modes-of (kindOf (c .kind)) in (omega (arith, b .0, k .0), omega (arith, b .1, k .1))
 
 pub record Obeys (n P : ℕ) (c : Constraint) : Type 0 where
+  pub mode-in : fits (asksFor c .first) (asksFor c .last) (c .mode) ≡ true
   pub mode-least : 1 ≤ c .mode
-  pub mode-most : c .mode ≤ asked c .modes
+  pub mode-most : c .mode ≤ 6
   pub hard : c .hard ≤ 1
-  pub function-least : 1 ≤ c .function
-  pub function-most : c .function ≤ 5
+  pub function-in : functionFits (asksFor c .squares) (c .function) ≡ true
   pub weight-least : 1 ≤ c .weight
   pub weight : c .weight ≤ 255
-  pub kmin-fits : fits (asked c .kmin) 0 (c .kmax) (c .kmin) ≡ true
+  pub kmin-holds : holds (asksFor c .kmin) (c .kmax) mostByte (c .kmin) ≡ true
   pub kmin : c .kmin ≤ 255
-  pub kmax-fits : fits (asked c .kmax) (asked c .least) mostByte (c .kmax) ≡ true
+  pub kmax-holds : holds (asksFor c .kmax) (c .kmax) mostByte (c .kmax) ≡ true
   pub kmax : c .kmax ≤ 255
-  pub w-fits : fits (asked c .w) 1 mostByte (c .w) ≡ true
+  pub w-holds : holds (asksFor c .w) (c .kmax) mostByte (c .w) ≡ true
   pub w : c .w ≤ 255
   pub t1-least : 1 ≤ c .t1
   pub t1 : c .t1 < 2 ^ n
-  pub t2-fits : fits (asked c .t2) 1 (2 ^ n - 1) (c .t2) ≡ true
+  pub t2-holds : holds (asksFor c .t2) (c .kmax) (2 ^ n - 1) (c .t2) ≡ true
   pub t2 : c .t2 < 2 ^ n
-  pub s-fits : fits (asked c .s) 1 (2 ^ P - 1) (c .s) ≡ true
-  pub s : c .s < 2 ^ P
-  pub fewest : asked c .fewest ≤ size n (c .t1)
-  pub several : not (asked c .several) || severalTeams n c ≡ true
+  pub s-holds : holds (asksFor c .s) (c .kmax) (2 ^ P - 1) (slotsOf c) ≡ true
+  pub s : slotsOf c < 2 ^ P
+  pub fewest : asksFor c .fewest ≤ size n (c .t1)
+  pub several : not (asksFor c .several) || severalTeams n c ≡ true
 
 pub obeyed : (n P : ℕ) (c : Constraint) → obeys n P c ≡ true → Obeys n P c
 unfolding obeys keeps
 obeyed n P c h =
+    let f = asksFor c in
     let several = and-yes _ _ h in
     let fewest = and-yes _ _ (several .0) in
     let s = and-yes _ _ (fewest .0) in
@@ -74,57 +96,39 @@ obeyed n P c h =
     let weight = and-yes _ _ (kmin .0) in
     let function = and-yes _ _ (weight .0) in
     let hard = and-yes _ _ (function .0) in
-    let mode-in = fits-in 1 (asked c .modes) (c .mode) (hard .0) in
-    let function-in = fits-in 1 5 (c .function) (function .1) in
     let weight-in = fits-in 1 mostByte (c .weight) (weight .1) in
     let t1-in = fits-in 1 (2 ^ n - 1) (c .t1) (t1 .1) in
-    let kmax-le = fits-le (asked c .kmax) (asked c .least) mostByte (c .kmax) (kmax .1) in
-    let kmin-le = fits-le (asked c .kmin) 0 (c .kmax) (c .kmin) (kmin .1) in
     record {
-      mode-least = mode-in .0;
-      mode-most = mode-in .1;
+      mode-in = hard .0;
+      mode-least = mode-bounds c (hard .0) .0;
+      mode-most = mode-bounds c (hard .0) .1;
       hard = leb-true (c .hard) 1 (hard .1);
-      function-least = function-in .0;
-      function-most = function-in .1;
+      function-in = function .1;
       weight-least = weight-in .0;
       weight = weight-in .1;
-      kmin-fits = kmin .1;
-      kmin = omega arith;
-      kmax-fits = kmax .1;
-      kmax = kmax-le;
-      w-fits = w .1;
-      w = fits-le (asked c .w) 1 mostByte (c .w) (w .1);
+      kmin-holds = kmin .1;
+      kmin = holds-le (f .kmin) (c .kmax) mostByte (c .kmin) (kmin .1);
+      kmax-holds = kmax .1;
+      kmax = holds-le (f .kmax) (c .kmax) mostByte (c .kmax) (kmax .1);
+      w-holds = w .1;
+      w = holds-le (f .w) (c .kmax) mostByte (c .w) (w .1);
       t1-least = t1-in .0;
       t1 = lt-of-le-ones n (t1-in .1);
-      t2-fits = t2 .1;
-      t2 = lt-of-le-ones n (fits-le (asked c .t2) 1 (2 ^ n - 1) (c .t2) (t2 .1));
-      s-fits = s .1;
-      s = lt-of-le-ones P (fits-le (asked c .s) 1 (2 ^ P - 1) (c .s) (s .1));
-      fewest = leb-true (asked c .fewest) (size n (c .t1)) (fewest .1);
+      t2-holds = t2 .1;
+      t2 = lt-of-le-ones n (holds-le (f .t2) (c .kmax) (2 ^ n - 1) (c .t2) (t2 .1));
+      s-holds = s .1;
+      s = lt-of-le-ones P (holds-le (f .s) (c .kmax) (2 ^ P - 1) (slotsOf c) (s .1));
+      fewest = leb-true (f .fewest) (size n (c .t1)) (fewest .1);
       several = several .1;
     }
 
-modes-le : (k : Kind) → formOf k .modes ≤ 6
-unfolding formOf
-modes-le Kind.CA1 = omega arith
-modes-le Kind.CA2 = omega arith
-modes-le Kind.CA3 = omega arith
-modes-le Kind.CA4 = omega arith
-modes-le Kind.GA1 = omega arith
-modes-le Kind.BR1 = omega arith
-modes-le Kind.BR2 = omega arith
-modes-le Kind.FA1 = omega arith
-modes-le Kind.FA2 = omega arith
-modes-le Kind.SE1 = omega arith
-modes-le Kind.unknown = omega arith
-
 module _ {n P : ℕ} {c : Constraint} (o : Obeys n P c) where
   pub known : kindOf (c .kind) ≢ Kind.unknown
-  unfolding formOf
-  known e = let h : c .mode ≤ formOf Kind.unknown .modes = rw e at (o .mode-most) in omega (arith, o .mode-least)
-
-  pub mode-small : c .mode ≤ 6
-  mode-small = omega (arith, o .mode-most, modes-le (kindOf (c .kind)))
+  unfolding asksOf asksAt
+  known e =
+      let h : fits (asksOf Kind.unknown .first) (asksOf Kind.unknown .last) (c .mode) ≡ true =
+      subst (λ k. fits (asksOf k .first) (asksOf k .last) (c .mode) ≡ true) e (o .mode-in) in
+      let b = fits-in 1 0 (c .mode) h in omega arith
 
 pub record GoodGame (m : Instance) (g : ℕ) : Type 0 where
   pub home : getD (m .home) g 0 < m .n
@@ -148,11 +152,11 @@ good-game m g h =
 -- what it says that sentences 2, 4 and 5 are false; that home and away have G teams is another matter (sentence 3, `decode-home`)
 pub record Sound (m : Instance) : Type 0 where
   pub teams-least : 2 ≤ m .n
-  pub teams : m .n ≤ 32
+  pub teams : m .n ≤ mostTeams
   pub slots-least : 1 ≤ m .P
-  pub slots : m .P ≤ 64
-  pub games : m .G ≤ 1024
-  pub constraints : m .C ≤ 1024
+  pub slots : m .P ≤ mostSlots
+  pub games : m .G ≤ mostGames
+  pub constraints : m .C ≤ mostConstraints
   pub game : (g : ℕ) → g < m .G → GoodGame m g
   pub constraint : (c : ℕ) → c < m .C → Obeys (m .n) (m .P) (m .constraint c)
 
@@ -162,15 +166,15 @@ sound m h2 h4 h5 =
     let constraints = and-yes _ _ (not-false _ h2) in
     let games = and-yes _ _ (constraints .0) in
     let slots = and-yes _ _ (games .0) in
-    let teams-in = fits-in 2 32 (m .n) (slots .0) in
-    let slots-in = fits-in 1 64 (m .P) (slots .1) in
+    let teams-in = fits-in 2 mostTeams (m .n) (slots .0) in
+    let slots-in = fits-in 1 mostSlots (m .P) (slots .1) in
     record {
       teams-least = teams-in .0;
       teams = teams-in .1;
       slots-least = slots-in .0;
       slots = slots-in .1;
-      games = leb-true (m .G) 1024 (games .1);
-      constraints = leb-true (m .C) 1024 (constraints .1);
+      games = leb-true (m .G) mostGames (games .1);
+      constraints = leb-true (m .C) mostConstraints (constraints .1);
       game = λ g l. good-game m g (any-none _ (m .G) h4 g l);
       constraint = λ c l. obeyed (m .n) (m .P) (m .constraint c) (not-false _ (any-none _ (m .C) h5 c l));
     }

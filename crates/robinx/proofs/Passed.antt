@@ -1,14 +1,14 @@
 -- The refusals of a call as a list of sentences: what it means that none is true, and that the sentences about season and buffers
 -- leave a call with the plain sheet's number.
-use mathlib.Core.Path.{_≡_, refl, sym, ap, _∙_}
+use mathlib.Core.Path.{_≡_, refl, ap, _∙_}
 use mathlib.Core.List.{List, [], _∷_, _++_}
-use mathlib.Core.Bool.{Bool, true, false}
+use mathlib.Core.Bool.{true, false, true≢false}
 use Prim.Native.Nat.{ℕ, zero, suc}
 use native.Mathlib.Omega.{arith}
 use lib.ListN.{length}
-use Rattle.robinx.specs.Season.{Instance, decode}
-use Rattle.robinx.specs.Refusals.{Sentence, sentence, firstTrue, ofSeason, ofBuffers, sentence1, sentence2, sentence3, sentence4, sentence5, sentence7, sentence8}
-use Rattle.robinx.specs.Calls.{Call, ofCall, openFault, callFault}
+use Rattle.robinx.specs.Season.{decode}
+use Rattle.robinx.specs.Refusals.{Sentence, sentence, firstTrue, ofSeason, ofSheet, sentence1, sentence2, sentence3, sentence4, sentence5, sentence7, sentence8}
+use Rattle.robinx.specs.Calls.{Buffers, Outcome, Call, unlessRefused, ofBuffers, ofCall, openFault, opened, openCall, callFault}
 use Rattle.robinx.specs.PlainSheet.{plainFault}
 
 -- no sentence is true
@@ -42,6 +42,11 @@ first-of-both (sentence zero b ∷ l) r h = absurd h
 first-of-both (sentence (suc n) true ∷ l) r h = refl
 first-of-both (sentence (suc n) false ∷ l) r h = first-of-both l r h
 
+-- a call that is not declined has no fault
+pub no-fault : (f : ℕ) (done : Outcome) (b : Buffers) → unlessRefused f done b .reply .declined ≡ false → f ≡ 0
+no-fault zero done b h = refl
+no-fault (suc f) done b h = absurd (true≢false h)
+
 -- the season and the buffers, with ledger and tally of these lengths, have no fault
 pub record Passed (season sheet : List ℕ) (ledger tally : ℕ) : Type 0 where
   pub s1 : sentence1 season ≡ false
@@ -53,9 +58,9 @@ pub record Passed (season sheet : List ℕ) (ledger tally : ℕ) : Type 0 where
   pub s8 : sentence8 (decode season) sheet ≡ false
 
 pub all-passed : (season sheet : List ℕ) (ledger tally : ℕ)
-    → firstTrue (ofSeason season ++ ofBuffers (decode season) sheet ledger tally) ≡ 0 → Passed season sheet ledger tally
+    → firstTrue (ofSeason season ++ ofSheet (decode season) sheet ledger tally) ≡ 0 → Passed season sheet ledger tally
 all-passed season sheet ledger tally h =
-    let c = none-true (ofSeason season ++ ofBuffers (decode season) sheet ledger tally) h in
+    let c = none-true (ofSeason season ++ ofSheet (decode season) sheet ledger tally) h in
     record {
       s1 = c .0;
       s2 = c .1 .0;
@@ -66,22 +71,29 @@ all-passed season sheet ledger tally h =
       s8 = c .1 .1 .1 .1 .1 .1 .0;
     }
 
-module _ (season sheet : List ℕ) (ledger tally : List ℕ) where
-  pub passed : openFault season sheet ledger tally ≡ 0 → Passed season sheet (length ledger) (length tally)
+module _ (season : List ℕ) (b : Buffers) where
+  pub open-no-fault : openCall season b .reply .declined ≡ false → openFault season b ≡ 0
+  unfolding openCall
+  open-no-fault h = no-fault (openFault season b) _ _ h
+
+  -- an opening that is not declined works everything out
+  pub opens-fresh : openCall season b .reply .declined ≡ false → openCall season b ≡ opened (decode season) (b .sheet)
+  unfolding openCall
+  opens-fresh h = rw (open-no-fault h)
+
+  pub passed : openFault season b ≡ 0 → Passed season (b .sheet) (length (b .ledger)) (length (b .tally))
   unfolding openFault
-  passed h = all-passed season sheet (length ledger) (length tally) h
+  passed h = all-passed season (b .sheet) (length (b .ledger)) (length (b .tally)) h
 
   -- a call's own sentences are read after those of season and buffers
-  pub fault-of-call : (k : Call)
-      → callFault season sheet ledger tally k ≡ orElse (openFault season sheet ledger tally) (plainFault (decode season) sheet k)
+  pub fault-of-call : (k : Call) → callFault season b k ≡ orElse (openFault season b) (plainFault (decode season) (b .sheet) k)
   unfolding callFault openFault plainFault
-  fault-of-call k =
-      first-of-both (ofSeason season ++ ofBuffers (decode season) sheet (length ledger) (length tally)) (ofCall (decode season) sheet k) tt
+  fault-of-call k = first-of-both (ofBuffers season b) (ofCall (decode season) (b .sheet) k) tt
 
-  module _ (p : Passed season sheet (length ledger) (length tally)) where
-    pub open-passes : openFault season sheet ledger tally ≡ 0
+  module _ (p : Passed season (b .sheet) (length (b .ledger)) (length (b .tally))) where
+    pub open-passes : openFault season b ≡ 0
     unfolding openFault firstTrue
     open-passes = rw (p .s1, p .s2, p .s3, p .s4, p .s5, p .s7, p .s8)
 
-    pub call-passes : (k : Call) → callFault season sheet ledger tally k ≡ plainFault (decode season) sheet k
-    call-passes k = fault-of-call k ∙ ap (λ (f : ℕ). orElse f (plainFault (decode season) sheet k)) open-passes
+    pub call-passes : (k : Call) → callFault season b k ≡ plainFault (decode season) (b .sheet) k
+    call-passes k = fault-of-call k ∙ ap (λ (f : ℕ). orElse f (plainFault (decode season) (b .sheet) k)) open-passes

@@ -1,4 +1,4 @@
--- Season A of document 01, byte by byte, with its sheet and its books; and seasons that differ from it in their constraints.
+-- Season A (FORMAT 7), byte by byte, with its sheet and its books; and seasons that differ from it in their constraints.
 use mathlib.Core.List.{List, [], _∷_, _++_}
 use Prim.Native.Nat.{ℕ}
 

@@ -6,9 +6,9 @@ use Prim.Native.Nat.{ℕ, zero, suc, _+_, _*_, _<_, _≤_, max}
 use native.Mathlib.Omega.{arith}
 use native.Mathlib.Numerals.{add-one}
 use native.Mathlib.Nat.{add-zero}
-use native.Mathlib.Decide.{ℕ-discrete}
+use native.Mathlib.Decide.{ℕ-discrete, decLt}
 use lib.Dec.{ltb}
-use borrow.Author.Tests.{lt-ltb}
+use borrow.Author.Tests.{lt-ltb, ltb-true}
 use Rattle.robinx.specs.Sums.{sumTo, maxTo, catTo, anyTo, only}
 
 pub or-no : (a b : Bool) → a || b ≡ false → (a ≡ false) × (b ≡ false)
@@ -26,6 +26,10 @@ never false h = refl
 pub only-le : (b : Bool) (v : ℕ) → only b v ≤ v
 only-le true v = omega arith
 only-le false v = omega arith
+
+pub only-yes : (b : Bool) (v : ℕ) → 0 < only b v → (b ≡ true) × (0 < v)
+only-yes true v h = (refl, h)
+only-yes false v h = let z : ⊥ = omega arith in absurd z
 
 pub only-bound : (b : Bool) {v B : ℕ} → v ≤ B → only b v ≤ B
 only-bound b {v} {B} h = omega (arith, only-le b v)
@@ -101,6 +105,16 @@ sum-mono f k (suc n) h = go (ℕ-discrete k (suc n)) (λ l. sum-mono f k n l)
 pub term-le-sum : (f : ℕ → ℕ) (k n : ℕ) → k < n → f k ≤ sumTo f n
 term-le-sum f k n h = omega (arith, sum-step f k, sum-mono f (k + 1) n (omega arith))
 
+-- a sum that is not 0 has a term that is not
+pub some-term : (f : ℕ → ℕ) (n : ℕ) → 0 < sumTo f n → (k : ℕ) × (k < n) × (0 < f k)
+unfolding sumTo
+some-term f zero h = let z : ⊥ = omega arith in absurd z
+some-term f (suc n) h = go (decLt 0 (f n)) (some-term f n)
+  where
+    go : Dec (0 < f n) → (0 < sumTo f n → (k : ℕ) × (k < n) × (0 < f k)) → (k : ℕ) × (k < suc n) × (0 < f k)
+    go (yes l) ih = (n, omega arith, l)
+    go (no l) ih = let r = ih (omega arith) in (r .0, omega (arith, r .1), r .2)
+
 -- where no two pass, at most one does
 pub one-at-most : (p : ℕ → Bool) (n : ℕ)
     → ((g h : ℕ) → g < n → h < g → p g ≡ true → p h ≡ true → ⊥)
@@ -144,3 +158,8 @@ any-is-sum p (suc n) = go (p n) (sumTo (λ k. only (p k) 1) n) (any-is-sum p n)
     go : (b : Bool) (s : ℕ) → anyTo p n ≡ ltb 0 s → anyTo p n || b ≡ ltb 0 (s + only b 1)
     go true s ih = or-true (anyTo p n) ∙ sym (lt-ltb 0 (s + 1) (omega arith))
     go false s ih = or-false (anyTo p n) ∙ ih ∙ ap (ltb 0) (sym (add-zero s))
+
+pub some-any : (p : ℕ → Bool) (n : ℕ) → anyTo p n ≡ true → (k : ℕ) × (k < n) × (p k ≡ true)
+some-any p n h =
+    let s = some-term (λ k. only (p k) 1) n (ltb-true 0 _ (sym (any-is-sum p n) ∙ h)) in
+    (s .0, s .1, only-yes (p (s .0)) 1 (s .2) .0)

@@ -1,4 +1,4 @@
--- Open, set and exchange as functions of what is lent to them (document 01, "Calls and the plain sheet"): for every input they give
+-- Open, set and exchange as functions of what is lent to them (FORMAT 5): for every input they give
 -- the reply and the final contents of sheet, ledger and tally. Set and exchange keep what they do not touch; that what they keep is
 -- right is no part of their text.
 use mathlib.Core.List.{List, [], _∷_, _++_}
@@ -13,19 +13,26 @@ use Rattle.robinx.specs.Season.{Instance, decode}
 use Rattle.robinx.specs.Timetable.{X}
 use Rattle.robinx.specs.Touch.{touches}
 use Rattle.robinx.specs.Books.{timetable, deviationsAt, penaltyAt, entriesAt, startAt, isHard, isSoft, total, freshLedger, freshTally, verdict}
-use Rattle.robinx.specs.Refusals.{Sentence, sentence, firstTrue, ofSeason, ofBuffers, sentence9, sentence10, sentence11, sentence12, sentence13}
+use Rattle.robinx.specs.Refusals.{Sentence, sentence, firstTrue, ofSeason, ofSheet, sentence9, sentence10, sentence11, sentence12, sentence13}
 use Rattle.robinx.specs.declared.Constraint.{Constraint}
 use Rattle.robinx.specs.declared.Reply.{Reply}
 
--- what a call answers, and what it leaves in the buffers
-pub record Outcome : Type 0 where
-  pub reply : Reply
+-- the lent buffers that a call may write; the season is lent for reading only
+pub record Buffers : Type 0 where
   pub sheet : List ℕ
   pub ledger : List ℕ
   pub tally : List ℕ
 
-abbrev pub outcome : Reply → List ℕ → List ℕ → List ℕ → Outcome
-outcome reply sheet ledger tally = record { reply = reply; sheet = sheet; ledger = ledger; tally = tally }
+abbrev pub buffers : List ℕ → List ℕ → List ℕ → Buffers
+buffers sheet ledger tally = record { sheet = sheet; ledger = ledger; tally = tally }
+
+-- what a call answers, and what it leaves in the buffers
+pub record Outcome : Type 0 where
+  pub reply : Reply
+  pub left : Buffers
+
+abbrev pub outcome : Reply → Buffers → Outcome
+outcome reply left = record { reply = reply; left = left }
 
 -- a refusal: marked as declined, with its number and no change
 abbrev pub declined : ℕ → Reply
@@ -36,14 +43,21 @@ accepted number infeasibility objective =
     record { declined = false; number = number; infeasibility = infeasibility; objective = objective }
 
 -- the accepted outcome where no sentence is true; else the refusal, with the buffers as they were
-abbrev pub unlessRefused : ℕ → Outcome → List ℕ → List ℕ → List ℕ → Outcome
-unlessRefused zero done sheet ledger tally = done
-unlessRefused (suc r) done sheet ledger tally = outcome (declined (suc r)) sheet ledger tally
+abbrev pub unlessRefused : ℕ → Outcome → Buffers → Outcome
+unlessRefused zero done b = done
+unlessRefused (suc r) done b = outcome (declined (suc r)) b
+
+-- the sentences about season and buffers
+abbrev pub ofBuffers : List ℕ → Buffers → List Sentence
+ofBuffers season b = ofSeason season ++ ofSheet (decode season) (b .sheet) (length (b .ledger)) (length (b .tally))
 
 -- Open works everything out from the proposed sheet. Its changes are the totals themselves.
-unfoldable pub openFault : List ℕ → List ℕ → List ℕ → List ℕ → ℕ
-openFault season sheet ledger tally =
-    firstTrue (ofSeason season ++ ofBuffers (decode season) sheet (length ledger) (length tally))
+unfoldable pub openFault : List ℕ → Buffers → ℕ
+openFault season b = firstTrue (ofBuffers season b)
+
+-- a sheet with its fresh books
+abbrev pub freshBuffers : Instance → List ℕ → Buffers
+freshBuffers m sheet = buffers sheet (freshLedger m sheet) (freshTally m sheet)
 
 unfoldable pub opened : Instance → List ℕ → Outcome
 opened m sheet =
@@ -52,13 +66,10 @@ opened m sheet =
     (verdict m sheet (total isHard m (timetable m sheet)))
     (pos (total isHard m (timetable m sheet)))
     (pos (total isSoft m (timetable m sheet))))
-    sheet
-    (freshLedger m sheet)
-    (freshTally m sheet)
+    (freshBuffers m sheet)
 
-unfoldable pub openCall : List ℕ → List ℕ → List ℕ → List ℕ → Outcome
-openCall season sheet ledger tally =
-    unlessRefused (openFault season sheet ledger tally) (opened (decode season) sheet) sheet ledger tally
+unfoldable pub openCall : List ℕ → Buffers → Outcome
+openCall season b = unlessRefused (openFault season b) (opened (decode season) (b .sheet)) b
 
 -- Set puts a game into a slot, or out of its slot by 0. Exchange gives each of two games the slot of the other.
 pub data Call : Type 0 where
@@ -119,42 +130,31 @@ movedTotal old d = (old + d) % 2 ^ 64
 
 -- The outcome of an accepted set or exchange, for any books: the reply reads the changes as two's complement, and the verdict from the
 -- moved total.
-unfoldable pub reworked : Instance → List ℕ → List ℕ → List ℕ → Call → Outcome
-reworked m sheet ledger tally k =
-    let after = moved sheet k in
+unfoldable pub reworked : Instance → Buffers → Call → Outcome
+reworked m b k =
+    let after = moved (b .sheet) k in
     let x = timetable m after in
-    let t = touched m sheet k in
-    let hard = change isHard m t x tally in
-    let soft = change isSoft m t x tally in
-    let infeasibility = movedTotal (getD tally (m .C) 0) hard in
-    let objective = movedTotal (getD tally (m .C + 1) 0) soft in
+    let t = touched m (b .sheet) k in
+    let hard = change isHard m t x (b .tally) in
+    let soft = change isSoft m t x (b .tally) in
+    let infeasibility = movedTotal (getD (b .tally) (m .C) 0) hard in
+    let objective = movedTotal (getD (b .tally) (m .C + 1) 0) soft in
     outcome
     (accepted (verdict m after infeasibility) (toZ w64 hard) (toZ w64 soft))
+    (buffers
     after
-    (catTo (reworkedStretch m t x ledger) (m .C))
-    (listTo (reworkedPenalty m t x tally) (m .C) ++ infeasibility ∷ objective ∷ [])
+    (catTo (reworkedStretch m t x (b .ledger)) (m .C))
+    (listTo (reworkedPenalty m t x (b .tally)) (m .C) ++ infeasibility ∷ objective ∷ []))
 
-unfoldable pub callFault : List ℕ → List ℕ → List ℕ → List ℕ → Call → ℕ
-callFault season sheet ledger tally k =
-    firstTrue
-    (ofSeason season
-    ++ ofBuffers (decode season) sheet (length ledger) (length tally)
-    ++ ofCall (decode season) sheet k)
+unfoldable pub callFault : List ℕ → Buffers → Call → ℕ
+callFault season b k = firstTrue (ofBuffers season b ++ ofCall (decode season) (b .sheet) k)
 
-unfoldable pub setCall : List ℕ → List ℕ → List ℕ → List ℕ → ℕ → ℕ → Outcome
-setCall season sheet ledger tally g s =
-    unlessRefused
-    (callFault season sheet ledger tally (setSlot g s))
-    (reworked (decode season) sheet ledger tally (setSlot g s))
-    sheet
-    ledger
-    tally
+-- a call on a season and its buffers
+unfoldable pub callOn : List ℕ → Buffers → Call → Outcome
+callOn season b k = unlessRefused (callFault season b k) (reworked (decode season) b k) b
 
-unfoldable pub exchangeCall : List ℕ → List ℕ → List ℕ → List ℕ → ℕ → ℕ → Outcome
-exchangeCall season sheet ledger tally g h =
-    unlessRefused
-    (callFault season sheet ledger tally (exchange g h))
-    (reworked (decode season) sheet ledger tally (exchange g h))
-    sheet
-    ledger
-    tally
+abbrev pub setCall : List ℕ → Buffers → ℕ → ℕ → Outcome
+setCall season b g s = callOn season b (setSlot g s)
+
+abbrev pub exchangeCall : List ℕ → Buffers → ℕ → ℕ → Outcome
+exchangeCall season b g h = callOn season b (exchange g h)

@@ -1,13 +1,16 @@
--- The deviations of each kind (document 01, "What each kind counts"; RobinX, section 3.2), from the numbers of teams and slots,
+-- The deviations of each kind (FORMAT 3.3; RobinX, section 3.2), from the numbers of teams and slots,
 -- the constraint and x. Teams, slots and pairs stand in rising order.
 use mathlib.Core.List.{List, [], _∷_}
 use mathlib.Core.Bool.{Bool, true, false, _&&_, cond}
 use Prim.Native.Nat.{ℕ, suc, _+_, _-_, max}
 use lib.Dec.{ltb}
 use Rattle.robinx.specs.Sums.{sumTo, maxTo, catTo, only, onlyL, dist}
+use Rattle.robinx.specs.Season.{slotsOf}
 use Rattle.robinx.specs.Groups.{has, size, isPair, pairs}
 use Rattle.robinx.specs.Timetable.{X, side, homeSide, awaySide, firstModes, gamesIn, gamesAgainst, gamesUpTo, gamesBetween, breaksIn, meet, lastSlot}
-use Rattle.robinx.specs.Kinds.{Kind, kindOf}
+use Rattle.robinx.specs.Kinds.{Kind, kindOf, formAt}
+use Rattle.robinx.specs.declared.Shape.{Shape}
+use Rattle.robinx.specs.declared.Shape.the-variants.{Nothing, One, EachTeam, EachPair, OneOrEachSlot}
 use Rattle.robinx.specs.declared.Constraint.{Constraint}
 
 -- f of each member below n
@@ -37,11 +40,11 @@ offTarget false kmax v = dist kmax v
 
 -- CA1: the team's games of the mode in S
 unfoldable pub devCA1 : ℕ → ℕ → Constraint → X → List ℕ
-devCA1 n P c x = each n (c .t1) (λ t. outside (c .kmin) (c .kmax) (over P (c .s) (λ k. gamesIn n x (side (c .mode)) t k)))
+devCA1 n P c x = each n (c .t1) (λ t. outside (c .kmin) (c .kmax) (over P (slotsOf c) (λ k. gamesIn n x (side (c .mode)) t k)))
 
 -- CA2: .. against T2
 unfoldable pub devCA2 : ℕ → ℕ → Constraint → X → List ℕ
-devCA2 n P c x = each n (c .t1) (λ t. outside (c .kmin) (c .kmax) (over P (c .s) (λ k. gamesAgainst n x (side (c .mode)) (c .t2) t k)))
+devCA2 n P c x = each n (c .t1) (λ t. outside (c .kmin) (c .kmax) (over P (slotsOf c) (λ k. gamesAgainst n x (side (c .mode)) (c .t2) t k)))
 
 -- CA3: in each run of w slots, from each slot a that has w slots from it on; their deviations are summed
 unfoldable pub inRun : (ℕ → ℕ) → ℕ → ℕ → ℕ
@@ -54,20 +57,20 @@ devCA3 n P c x =
     (λ a. outside (c .kmin) (c .kmax) (inRun (gamesAgainst n x (side (c .mode)) (c .t2) t) (c .w) a))
     (suc P - c .w))
 
--- CA4: games with a T1 team on the mode's side and a T2 team on the other, for all S or per slot of S
+-- CA4: games between a team of T1 that plays on the mode's side and an opponent of T2, over all of S or in each slot of it
 unfoldable pub devCA4 : ℕ → ℕ → Constraint → X → List ℕ
 devCA4 n P c x =
     cond (firstModes (c .mode))
-    (outside (c .kmin) (c .kmax) (over P (c .s) (λ k. gamesBetween n x (side (c .mode)) (c .t1) (c .t2) k)) ∷ [])
-    (each P (c .s) (λ k. outside (c .kmin) (c .kmax) (gamesBetween n x (side (c .mode)) (c .t1) (c .t2) k)))
+    (outside (c .kmin) (c .kmax) (over P (slotsOf c) (λ k. gamesBetween n x (side (c .mode)) (c .t1) (c .t2) k)) ∷ [])
+    (each P (slotsOf c) (λ k. outside (c .kmin) (c .kmax) (gamesBetween n x (side (c .mode)) (c .t1) (c .t2) k)))
 
--- GA1: games in S with home team in T1 and away team in T2
+-- GA1: games in S that a team of T1 hosts against one of T2
 unfoldable pub devGA1 : ℕ → ℕ → Constraint → X → List ℕ
-devGA1 n P c x = outside (c .kmin) (c .kmax) (over P (c .s) (λ k. gamesBetween n x homeSide (c .t1) (c .t2) k)) ∷ []
+devGA1 n P c x = outside (c .kmin) (c .kmax) (over P (slotsOf c) (λ k. gamesBetween n x homeSide (c .t1) (c .t2) k)) ∷ []
 
 -- a team's breaks of the mode's side in S
 unfoldable pub breaks : ℕ → ℕ → Constraint → X → ℕ → ℕ
-breaks n P c x t = over P (c .s) (λ k. breaksIn n x (side (c .mode)) t k)
+breaks n P c x t = over P (slotsOf c) (λ k. breaksIn n x (side (c .mode)) t k)
 
 -- BR1: the breaks of each team
 unfoldable pub devBR1 : ℕ → ℕ → Constraint → X → List ℕ
@@ -81,13 +84,13 @@ devBR2 n P c x = offTarget (firstModes (c .mode)) (c .kmax) (sumTo (λ t. only (
 unfoldable pub devFA1 : ℕ → ℕ → Constraint → X → List ℕ
 devFA1 n P c x =
     each n (c .t1) (λ t.
-    worst P (c .s) (λ k. dist (gamesUpTo n x homeSide (c .t1) t (suc k)) (gamesUpTo n x awaySide (c .t1) t (suc k)) - c .kmax))
+    worst P (slotsOf c) (λ k. dist (gamesUpTo n x homeSide (c .t1) t (suc k)) (gamesUpTo n x awaySide (c .t1) t (suc k)) - c .kmax))
 
 -- FA2: the same of two teams' games of the mode against T1
 unfoldable pub devFA2 : ℕ → ℕ → Constraint → X → List ℕ
 devFA2 n P c x =
     eachPair n (c .t1) (λ i j.
-    worst P (c .s) (λ k.
+    worst P (slotsOf c) (λ k.
     dist (gamesUpTo n x (side (c .mode)) (c .t1) i (suc k)) (gamesUpTo n x (side (c .mode)) (c .t1) j (suc k)) - c .kmax))
 
 -- SE1: how far a game in slot k is closer than w slots to the one before it; of two teams' meetings, summed over all slots
@@ -113,19 +116,13 @@ deviationsOf Kind.unknown = λ n P c x. []
 unfoldable pub deviations : ℕ → ℕ → Constraint → X → List ℕ
 deviations n P c x = deviationsOf (kindOf (c .kind)) n P c x
 
--- How many deviations there are: one for each team of T1, each slot of S or each pair of T1, or one in all.
-abbrev pub entriesOf : Kind → ℕ → ℕ → Constraint → ℕ
-entriesOf Kind.CA1 n P c = size n (c .t1)
-entriesOf Kind.CA2 n P c = size n (c .t1)
-entriesOf Kind.CA3 n P c = size n (c .t1)
-entriesOf Kind.CA4 n P c = cond (firstModes (c .mode)) 1 (size P (c .s))
-entriesOf Kind.GA1 n P c = 1
-entriesOf Kind.BR1 n P c = size n (c .t1)
-entriesOf Kind.BR2 n P c = 1
-entriesOf Kind.FA1 n P c = size n (c .t1)
-entriesOf Kind.FA2 n P c = pairs n (c .t1)
-entriesOf Kind.SE1 n P c = pairs n (c .t1)
-entriesOf Kind.unknown n P c = 0
+-- How many deviations there are, by the row of the kind.
+abbrev pub inShape : Shape → ℕ → ℕ → Constraint → ℕ
+inShape Nothing n P c = 0
+inShape One n P c = 1
+inShape EachTeam n P c = size n (c .t1)
+inShape EachPair n P c = pairs n (c .t1)
+inShape OneOrEachSlot n P c = cond (firstModes (c .mode)) 1 (size P (slotsOf c))
 
 unfoldable pub entries : ℕ → ℕ → Constraint → ℕ
-entries n P c = entriesOf (kindOf (c .kind)) n P c
+entries n P c = inShape (formAt (c .kind) .shape) n P c

@@ -16,7 +16,7 @@ has T k = eqb (bit T k) 1
 abbrev pub reaches : ℕ → ℕ → Bool
 reaches T k = leb (2 ^ k) T
 
--- how many members below n the group has; a valid group has no others, so this counts its set bits (document 01, "The season's bytes")
+-- how many members below n the group has; a valid group has no others, so this counts its set bits (FORMAT 2.3)
 unfoldable pub size : ℕ → ℕ → ℕ
 size n T = sumTo (λ t. only (has T t) 1) n
 

@@ -12,4 +12,4 @@ pub mod Refusals
 pub mod Calls
 pub mod Report
 pub mod PlainSheet
-pub mod Demand3
+pub mod Demands

@@ -1,4 +1,4 @@
--- The plain sheet (document 01, "Calls and the plain sheet"): a list of G slots that knows the season and is fed each call. It takes
+-- The plain sheet (FORMAT 5.6): a list of G slots that knows the season and is fed each call. It takes
 -- nothing from the lent sheet, the books or the replies.
 use mathlib.Core.List.{List, [], _∷_}
 use mathlib.Core.Bool.{Bool, _&&_}

@@ -1,4 +1,4 @@
--- Why a call is declined (document 01, "Why a call is declined, in checking order"): each sentence a test under its number.
+-- Why a call is declined (FORMAT 6): each sentence a test under its number.
 use mathlib.Core.List.{List, [], _∷_, _++_}
 use mathlib.Core.Bool.{Bool, true, false, _&&_, _||_, not}
 use Prim.Native.Nat.{ℕ, _+_, _*_}
@@ -18,8 +18,8 @@ sentence1 season = ltb (length season) 6
 unfoldable pub sentence2 : Instance → Bool
 sentence2 m =
     not
-    (fits true 2 mostTeams (m .n)
-    && fits true 1 mostSlots (m .P)
+    (fits 2 mostTeams (m .n)
+    && fits 1 mostSlots (m .P)
     && leb (m .G) mostGames
     && leb (m .C) mostConstraints)
 
@@ -102,7 +102,7 @@ ofSeason season =
     ∷ sentence 5 (sentence5 (decode season))
     ∷ []
 
--- about the lent buffers: a sheet, and the lengths of ledger and tally
-abbrev pub ofBuffers : Instance → List ℕ → ℕ → ℕ → List Sentence
-ofBuffers m sheet ledger tally =
+-- about a sheet and the lengths of the books lent with it
+abbrev pub ofSheet : Instance → List ℕ → ℕ → ℕ → List Sentence
+ofSheet m sheet ledger tally =
     sentence 7 (sentence7 m (length sheet) ledger tally) ∷ sentence 8 (sentence8 m sheet) ∷ []

@@ -1,4 +1,4 @@
--- The report program (document 01, "Season A and its printout"): what its input is, when it refuses, and the rows that it prints.
+-- The report program (FORMAT 8): what its input is, when it refuses, and the rows that it prints.
 use mathlib.Core.List.{List, [], _∷_, _++_}
 use mathlib.Core.Bool.{Bool, true, false}
 use Prim.Native.Nat.{ℕ, zero, suc, _+_}
@@ -6,7 +6,7 @@ use lib.Dec.{ltb}
 use lib.ListN.{take, drop}
 use Rattle.robinx.specs.Season.{Instance, decode, seasonLength}
 use Rattle.robinx.specs.Books.{timetable, penaltyAt, isHard, isSoft, allEntries, total, verdict}
-use Rattle.robinx.specs.Refusals.{sentence, firstTrue, ofSeason, ofBuffers, sentence6}
+use Rattle.robinx.specs.Refusals.{sentence, firstTrue, ofSeason, ofSheet, sentence6}
 
 -- the season is as long as its sizes say, and what follows it is the sheet
 unfoldable pub seasonOf : List ℕ → List ℕ
@@ -22,7 +22,7 @@ reportFault input =
     firstTrue
     (ofSeason (seasonOf input)
     ++ sentence 6 (sentence6 m) ∷ []
-    ++ ofBuffers m (sheetOf input) (allEntries m) (m .C + 2))
+    ++ ofSheet m (sheetOf input) (allEntries m) (m .C + 2))
 
 -- a row for each of the first k constraints that is broken: its number, kind and penalty
 abbrev rowIf : Bool → ℕ → ℕ → ℕ → List (List ℕ)

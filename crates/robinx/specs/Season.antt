@@ -1,4 +1,4 @@
--- What a season's bytes say (document 01, "The season's bytes"). Nothing after this file sees bytes.
+-- What a season's bytes say (docs/FORMAT.md, section 2; FORMAT 2 for short, here and in the other files). Nothing after this file sees bytes.
 use mathlib.Core.List.{List}
 use Prim.Native.Nat.{ℕ, zero, suc, _+_, _*_}
 use lib.ListN.{getD, take, drop}
@@ -19,6 +19,10 @@ mostConstraints = 1024
 
 abbrev pub mostMeetings : ℕ
 mostMeetings = 8
+
+-- a table's words, one for each two teams
+abbrev pub mostPlaces : ℕ
+mostPlaces = mostTeams * mostTeams
 
 -- the largest value of a byte
 abbrev pub mostByte : ℕ
@@ -73,6 +77,10 @@ constraintFrom s h b = record {
   t2 = number 4 s (b + 4);
   s = number 8 s (b + 8);
 }
+
+-- S, the slots of a constraint: the one place that knows how they stand in its record
+abbrev pub slotsOf : Constraint → ℕ
+slotsOf c = c .s
 
 -- A season that has been read: n teams, P slots, G games with their teams, C constraints.
 pub record Instance : Type 0 where

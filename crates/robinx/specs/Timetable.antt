@@ -8,7 +8,7 @@ use lib.ListN.{length, getD}
 use Rattle.robinx.specs.Sums.{sumTo, only, anyTo}
 use Rattle.robinx.specs.Groups.{has}
 
--- x i j k: how often team i meets team j at i's venue in slot k
+-- x i j k: how many games i hosts against j in slot k
 abbrev pub X : Type 0
 X = ℕ → ℕ → ℕ → ℕ
 
@@ -19,7 +19,7 @@ isAt home away sheet i j k g = eqb (getD home g 0) i && eqb (getD away g 0) j &&
 unfoldable pub meetings : List ℕ → List ℕ → List ℕ → X
 meetings home away sheet i j k = sumTo (λ g. only (isAt home away sheet i j k g) 1) (length home)
 
--- Sides: a group of home (member 0) and away (member 1). A mode names sides (document 01, "What each kind counts"): home, away or both,
+-- Sides: a group of home (member 0) and away (member 1). A mode names sides (FORMAT 3.1): home, away or both,
 -- for modes 1 to 3 and again for 4 to 6.
 abbrev pub side : ℕ → ℕ
 side mode = (mode - 1) % 3 + 1
@@ -70,7 +70,7 @@ unfoldable pub lastWas : (ℕ → Bool) → (ℕ → Bool) → ℕ → Bool
 lastWas game onSide zero = false
 lastWas game onSide (suc k) = cond (game k) (onSide k) (lastWas game onSide k)
 
--- a break of the side d: t plays on it in slot k, and did so in its last game before (document 01, before the list of kinds)
+-- a break of the side d: t plays on it in slot k, and did so in its last game before (FORMAT 3.2)
 unfoldable pub breakOn : ℕ → X → ℕ → ℕ → ℕ → Bool
 breakOn n x d t k = plays n x d t k && lastWas (plays n x anySide t) (plays n x d t) k
 

@@ -20,6 +20,9 @@ impl Season {
     pub const CONSTRAINTS: usize = 1024;
 
     pub const MEETINGS: usize = 8;
+
+    // a table's words, one for each two teams
+    pub const PLACES: usize = Season::TEAMS * Season::TEAMS;
 }
 
 // A constraint: the eight bytes of its head, the three groups of its body.
@@ -37,18 +40,62 @@ pub struct Constraint {
     pub s: u64,
 }
 
-// What a kind asks of its constraints: the largest mode, which fields it uses, the least kmax, the fewest teams of T1, and whether
-// one of T1 and T2 has to have more than one team.
-pub struct Form {
-    pub modes: u8,
-    pub kmin: bool,
-    pub kmax: bool,
-    pub w: bool,
-    pub t2: bool,
-    pub s: bool,
-    pub least: u8,
+// What a kind asks of a field, besides that it is in range: that it is 0, nothing, that it is at most kmax, that it is not 0. A group that
+// is not 0 has a member.
+pub enum Field {
+    Zero,
+    Any,
+    UpToKmax,
+    Some,
+}
+
+// How many deviations a constraint has: one, or one for each team of T1 or pair of them; or one in modes 1 to 3 and one for each slot
+// of S in modes 4 to 6.
+pub enum Shape {
+    Nothing,
+    One,
+    EachTeam,
+    EachPair,
+    OneOrEachSlot,
+}
+
+// The games whose change touches a constraint, by their teams: one is in T1; one is in T1 and the other in T2; home is in T1 and away in
+// T2; both are in T1.
+pub enum TouchTeams {
+    Nobody,
+    OneInT1,
+    Across,
+    HomeAndAway,
+    BothInT1,
+}
+
+// .. and by the slot that they leave or get: in S; at or before the last of S; any.
+pub enum TouchSlots {
+    InS,
+    UpToLastOfS,
+    AnySlot,
+}
+
+// What a kind asks of its constraints: the first and the last mode, whether a penalty may square (functions 2 and 3), the fields, the fewest
+// teams of T1, and whether one of T1 and T2 has to have more than one team.
+pub struct Asks {
+    pub first: u8,
+    pub last: u8,
+    pub squares: bool,
+    pub kmin: Field,
+    pub kmax: Field,
+    pub w: Field,
+    pub t2: Field,
+    pub s: Field,
     pub fewest: u8,
     pub several: bool,
+}
+
+// The rest that differs between kinds, but for the count itself: how many deviations there are, and which changes touch them.
+pub struct Form {
+    pub shape: Shape,
+    pub teams: TouchTeams,
+    pub slots: TouchSlots,
 }
 
 // The two running totals: infeasibility and objective.

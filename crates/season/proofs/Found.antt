@@ -6,7 +6,7 @@ use Prim.Native.Nat.{ℕ, suc}
 use native.Mathlib.Omega.{arith}
 use lib.ListN.{length}
 use borrow.Author.Tests.{eqb-true, not-false}
-use Rattle.robinx.specs.Season.{Instance, decode, seasonLength}
+use Rattle.robinx.specs.Season.{decode, seasonLength}
 use Rattle.robinx.specs.Refusals.{Sentence, sentence, sentence1, sentence2, sentence3, sentence4, sentence5, firstTrue, ofSeason}
 use Rattle.robinx.specs.declared.Season.{Season}
 use Rattle.robinx.proofs.Limits.{Sound, sound, decode-home, decode-away}
@@ -20,33 +20,33 @@ pub measured : (s : List ℕ) {z : Season} → z ≡ sizesOf s → sentence3 s �
 unfolding sentence3
 measured s e h = record { sizes = e; whole = eqb-true (length s) (seasonLength s) (not-false _ h) ∙ length-asked s e }
 
-pub refusal : (l : List Sentence) (m : Instance) (k : ℕ) → firstTrue l ≡ suc k → Examination l m (refusedBy (suc k))
-refusal l m k e = record { fault = sym e; entries = λ z. absurd (omega (arith, z)) }
+pub refusal : (l : List Sentence) (s : List ℕ) (k : ℕ) → firstTrue l ≡ suc k → Examination l s (refusedBy (suc k))
+refusal l s k e = record { fault = sym e; sizes = λ z. absurd (omega (arith, z)); entries = λ z. absurd (omega (arith, z)) }
 
 module _ (s : List ℕ) where
-  pub fault-1 : sentence1 s ≡ true → Examination (ofSeason s) (decode s) (refusedBy 1)
+  pub fault-1 : sentence1 s ≡ true → Examination (ofSeason s) s (refusedBy 1)
   unfolding firstTrue
-  fault-1 a = refusal (ofSeason s) (decode s) 0 (rw a)
+  fault-1 a = refusal (ofSeason s) s 0 (rw a)
 
   module _ (a : sentence1 s ≡ false) where
-    pub fault-2 : sentence2 (decode s) ≡ true → Examination (ofSeason s) (decode s) (refusedBy 2)
+    pub fault-2 : sentence2 (decode s) ≡ true → Examination (ofSeason s) s (refusedBy 2)
     unfolding firstTrue
-    fault-2 b = refusal (ofSeason s) (decode s) 1 (rw (a, b))
+    fault-2 b = refusal (ofSeason s) s 1 (rw (a, b))
 
     module _ (b : sentence2 (decode s) ≡ false) where
-      pub fault-3 : sentence3 s ≡ true → Examination (ofSeason s) (decode s) (refusedBy 3)
+      pub fault-3 : sentence3 s ≡ true → Examination (ofSeason s) s (refusedBy 3)
       unfolding firstTrue
-      fault-3 c = refusal (ofSeason s) (decode s) 2 (rw (a, b, c))
+      fault-3 c = refusal (ofSeason s) s 2 (rw (a, b, c))
 
       module _ (c : sentence3 s ≡ false) where
-        pub fault-4 : sentence4 (decode s) ≡ true → Examination (ofSeason s) (decode s) (refusedBy 4)
+        pub fault-4 : sentence4 (decode s) ≡ true → Examination (ofSeason s) s (refusedBy 4)
         unfolding firstTrue
-        fault-4 d = refusal (ofSeason s) (decode s) 3 (rw (a, b, c, d))
+        fault-4 d = refusal (ofSeason s) s 3 (rw (a, b, c, d))
 
-        pub fault-5 : {r : Examined} → sentence4 (decode s) ≡ false → Examination (sentence 5 (sentence5 (decode s)) ∷ []) (decode s) r
-            → Examination (ofSeason s) (decode s) r
+        pub fault-5 : {r : Examined} → sentence4 (decode s) ≡ false → Examination (sentence 5 (sentence5 (decode s)) ∷ []) s r
+            → Examination (ofSeason s) s r
         unfolding firstTrue
-        fault-5 d e = record { fault = e .fault ∙ rw (a, b, c, d); entries = e .entries }
+        fault-5 d e = record { fault = e .fault ∙ rw (a, b, c, d); sizes = e .sizes; entries = e .entries }
 
 -- What an accepted season gives its callers; `Sound` has the ranges of sizes, teams and constraints.
 pub record SoundSeason (s : List ℕ) : Type 0 where

@@ -9,6 +9,7 @@ use lib.Dec.{eqb, leb, ltb}
 use lib.ListN.{length, getD, set, replicate, length-set, length-replicate, getD-replicate}
 use lib.Seq.{getD-set-same, getD-set-other}
 use borrow.Author.Tests.{eqb-true, eqb-false, leb-true, leb-false, lt-leb, eq-eqb, ne-eqb, lt-ltb, le-ltb}
+use Rattle.robinx.specs.Season.{mostTeams, mostPlaces, mostMeetings}
 use Rattle.robinx.specs.Sums.{sumTo, only}
 use Rattle.robinx.specs.Refusals.{isBetween, encounters, badGame, sentence4}
 use Rattle.robinx.proofs.Sums.{or-no, and-yes, sum-step, sum-mono, any-some, none-any}
@@ -22,9 +23,9 @@ pub record Fit (n i j : ℕ) : Type 0 where
 
 -- after g games: their teams fit, and the table has every pair's meetings, at most 8
 pub record Counted (n : ℕ) (home away counts : List ℕ) (g : ℕ) : Type 0 where
-  pub long : length counts ≡ 1024
+  pub long : length counts ≡ mostPlaces
   pub fit : (k : ℕ) → k < g → Fit n (getD home k 0) (getD away k 0)
-  pub met : (i j : ℕ) → Fit 32 i j → (getD counts (pairAt i j) 0 ≡ encounters home away i j g) × (encounters home away i j g ≤ 8)
+  pub met : (i j : ℕ) → Fit mostTeams i j → (getD counts (pairAt i j) 0 ≡ encounters home away i j g) × (encounters home away i j g ≤ mostMeetings)
 
 either : {A : Type 0} (a b : Bool) → a || b ≡ true → (a ≡ true → A) → (b ≡ true → A) → A
 either true b e p q = p refl
@@ -36,14 +37,14 @@ same-test false true p q = q refl
 same-test false false p q = refl
 
 -- two places are equal only where both digits are
-digits : (u v x y : ℕ) → v < 32 → y < 32 → u * 32 + v ≡ x * 32 + y → (u ≡ x) × (v ≡ y)
+digits : (u v x y : ℕ) → v < mostTeams → y < mostTeams → u * mostTeams + v ≡ x * mostTeams + y → (u ≡ x) × (v ≡ y)
 digits u v x y p q e = (omega arith, omega arith)
 
-below-32 : (i j : ℕ) → Fit 32 i j → max i j < 32
-below-32 i j f = omega (arith, f .home, f .away)
+below-most : (i j : ℕ) → Fit mostTeams i j → max i j < mostTeams
+below-most i j f = omega (arith, f .home, f .away)
 
 -- h meets a where i and j do: the test by teams is the test by places
-module _ (h a i j : ℕ) (f : Fit 32 h a) (o : Fit 32 i j) where
+module _ (h a i j : ℕ) (f : Fit mostTeams h a) (o : Fit mostTeams i j) where
   meets : Bool
   meets = eqb h i && eqb a j || eqb h j && eqb a i
 
@@ -62,7 +63,7 @@ module _ (h a i j : ℕ) (f : Fit 32 h a) (o : Fit 32 i j) where
   meets-at : meets ≡ eqb (pairAt i j) (pairAt h a)
   meets-at =
       same-test meets (eqb (pairAt i j) (pairAt h a)) (λ e. eq-eqb (pairAt i j) (pairAt h a) (one-place e)) (λ e.
-      let d = digits (min i j) (max i j) (min h a) (max h a) (below-32 i j o) (below-32 h a f) (eqb-true (pairAt i j) (pairAt h a) e) in
+      let d = digits (min i j) (max i j) (min h a) (max h a) (below-most i j o) (below-most h a f) (eqb-true (pairAt i j) (pairAt h a) e) in
       one-pair (ℕ-discrete h i) (d .0) (d .1))
 
 -- one more at place p of a table
@@ -73,12 +74,12 @@ tick l p q h = go (ℕ-discrete q p)
     go (yes e) = rw (e, eq-eqb p p refl) (getD-set-same l p (getD l p 0 + 1) 0 h)
     go (no e) = rw (ne-eqb q p e, getD-set-other l p q (getD l p 0 + 1) 0 e) (omega arith)
 
-pub counted-none : (n : ℕ) (home away : List ℕ) → Counted n home away (replicate 1024 0) 0
+pub counted-none : (n : ℕ) (home away : List ℕ) → Counted n home away (replicate mostPlaces 0) 0
 unfolding encounters sumTo
 counted-none n home away = record {
-  long = length-replicate {A = ℕ} 1024 0;
+  long = length-replicate {A = ℕ} mostPlaces 0;
   fit = λ k l. absurd (omega (arith, l));
-  met = λ i j f. (getD-replicate {A = ℕ} 1024 (pairAt i j) 0 0 (omega (arith, below-32 i j f)), omega arith);
+  met = λ i j f. (getD-replicate {A = ℕ} mostPlaces (pairAt i j) 0 0 (omega (arith, below-most i j f)), omega arith);
 }
 
 pub teams-fit : (i j n : ℕ) → leb n i || leb n j || eqb i j ≡ false → Fit n i j
@@ -91,18 +92,18 @@ few-more : (b : Bool) (v : ℕ) → v ≤ 8 → (b ≡ true → v < 8) → v + o
 few-more true v p q = omega (arith, q refl)
 few-more false v p q = omega arith
 
-module _ {n : ℕ} (small : n ≤ 32) {home away counts : List ℕ} {g : ℕ} (old : Counted n home away counts g) where
+module _ {n : ℕ} (small : n ≤ mostTeams) {home away counts : List ℕ} {g : ℕ} (old : Counted n home away counts g) where
   abbrev h : ℕ
   h = getD home g 0
 
   abbrev a : ℕ
   a = getD away g 0
 
-  wider : Fit n h a → Fit 32 h a
+  wider : Fit n h a → Fit mostTeams h a
   wider f = record { home = omega (arith, f .home); away = omega (arith, f .away); differ = f .differ }
 
   -- the meetings of i and j: one more where this game is theirs
-  one-more : (i j : ℕ) → Fit n h a → Fit 32 i j → encounters home away i j (g + 1) ≡ encounters home away i j g + only (eqb (pairAt i j) (pairAt h a)) 1
+  one-more : (i j : ℕ) → Fit n h a → Fit mostTeams i j → encounters home away i j (g + 1) ≡ encounters home away i j g + only (eqb (pairAt i j) (pairAt h a)) 1
   unfolding encounters meets
   one-more i j f o = sum-step (λ k. only (isBetween home away i j k) 1) g ∙ rw (meets-at h a i j (wider f) o)
 
@@ -118,7 +119,7 @@ module _ {n : ℕ} (small : n ≤ 32) {home away counts : List ℕ} {g : ℕ} (o
         met = λ i j o.
             let v = old .met i j o in
             let w = one-more i j f o in (
-              tick counts (pairAt h a) (pairAt i j) (omega (arith, old .long, below-32 h a (wider f))) ∙ rw (v .0) (sym w),
+              tick counts (pairAt h a) (pairAt i j) (omega (arith, old .long, below-most h a (wider f))) ∙ rw (v .0) (sym w),
               rw w (few-more (eqb (pairAt i j) (pairAt h a)) (encounters home away i j g) (v .1) (λ t.
                   omega (arith, v .0, few, ap (λ (p : ℕ). getD counts p 0) (eqb-true (pairAt i j) (pairAt h a) t)))),
             );
@@ -142,7 +143,7 @@ module _ {n : ℕ} (small : n ≤ 32) {home away counts : List ℕ} {g : ℕ} (o
       bad true q e = refl
       bad false q e = lt-ltb 8 _ (ninth (teams-fit h a n q) (leb-true 8 _ e))
 
-pub counted-good : {n : ℕ} → n ≤ 32 → {home away counts : List ℕ} → Counted n home away counts (length home) → sentence4 (ofGames n home away) ≡ false
+pub counted-good : {n : ℕ} → n ≤ mostTeams → {home away counts : List ℕ} → Counted n home away counts (length home) → sentence4 (ofGames n home away) ≡ false
 unfolding sentence4 badGame
 counted-good {n} small {home} {away} all =
     none-any (badGame (ofGames n home away)) (length home) (λ k l.

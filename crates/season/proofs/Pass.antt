@@ -4,14 +4,15 @@ use mathlib.Core.Bool.{Bool, true, false, not}
 use Prim.Native.Nat.{ℕ, _+_, _*_, _<_, _≤_}
 use native.Mathlib.Omega.{arith}
 use Rattle.robinx.specs.Sums.{sumTo, anyTo}
-use Rattle.robinx.specs.Season.{Instance}
+use Rattle.robinx.specs.Season.{Instance, mostTeams, mostSlots}
 use Rattle.robinx.specs.Rules.{obeys}
 use Rattle.robinx.specs.Deviations.{entries}
 use Rattle.robinx.specs.Books.{startAt}
 use Rattle.robinx.specs.Refusals.{sentence5}
 use Rattle.robinx.proofs.Sums.{sum-step, any-step, any-some}
 use Rattle.robinx.proofs.Bounds.{entries-small}
-use Rattle.season.specs.Counted.{entriesIn}
+use Rattle.robinx.specs.Kinds.{formAt}
+use Rattle.season.specs.Counted.{onesIn}
 use Rattle.season.proofs.Members.{entries-counted}
 
 abbrev pub breach : Instance → ℕ → Bool
@@ -27,8 +28,8 @@ pub kept-none : (m : Instance) → Kept m 0 0
 unfolding anyTo startAt sumTo
 kept-none m = record { rules = refl; entries = refl; small = omega arith }
 
-module _ (m : Instance) (teams : m .n ≤ 32) (slots : m .P ≤ 64) {c e : ℕ} (old : Kept m c e) where
-  pub kept-more : obeys (m .n) (m .P) (m .constraint c) ≡ true → Kept m (c + 1) (e + entriesIn (m .constraint c))
+module _ (m : Instance) (teams : m .n ≤ mostTeams) (slots : m .P ≤ mostSlots) {c e : ℕ} (old : Kept m c e) where
+  pub kept-more : obeys (m .n) (m .P) (m .constraint c) ≡ true → Kept m (c + 1) (e + onesIn (formAt (m .constraint c .kind) .shape) (m .constraint c))
   unfolding startAt
   kept-more h =
       let v = entries-counted (m .n) (m .P) (m .constraint c) h in

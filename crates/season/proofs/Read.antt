@@ -6,7 +6,7 @@ use Prim.Native.Nat.{ℕ, _+_, _*_, _≤_}
 use lib.Dec.{leb}
 use lib.ListN.{length}
 use borrow.Author.Tests.{leb-true, not-false, eq-eqb}
-use Rattle.robinx.specs.Season.{decode, seasonLength, homeTeams, awayTeams}
+use Rattle.robinx.specs.Season.{decode, seasonLength, homeTeams, awayTeams, mostTeams, mostSlots, mostGames, mostConstraints}
 use Rattle.robinx.specs.Rules.{fits}
 use Rattle.robinx.specs.Refusals.{sentence2, sentence3, sentence4, badGame}
 use Rattle.robinx.specs.declared.Season.{Season}
@@ -43,27 +43,27 @@ module _ (s : List ℕ) {z : Season} (e : z ≡ sizesOf s) where
 -- the ranges of sizes that are not outside
 pub record InRange (z : Season) : Type 0 where
   pub teams-least : 2 ≤ z .teams
-  pub teams : z .teams ≤ 32
+  pub teams : z .teams ≤ mostTeams
   pub slots-least : 1 ≤ z .slots
-  pub slots : z .slots ≤ 64
-  pub games : z .games ≤ 1024
-  pub constraints : z .constraints ≤ 1024
+  pub slots : z .slots ≤ mostSlots
+  pub games : z .games ≤ mostGames
+  pub constraints : z .constraints ≤ mostConstraints
 
 pub in-range : (z : Season) → outOfRange z ≡ false → InRange z
 unfolding outOfRange
 in-range z e =
-    let constraints = and-yes (fits true 2 32 (z .teams) && fits true 1 64 (z .slots) && leb (z .games) 1024) (leb (z .constraints) 1024) (not-false _ e) in
-    let games = and-yes (fits true 2 32 (z .teams) && fits true 1 64 (z .slots)) (leb (z .games) 1024) (constraints .0) in
-    let slots = and-yes (fits true 2 32 (z .teams)) (fits true 1 64 (z .slots)) (games .0) in
-    let teams-in = fits-in 2 32 (z .teams) (slots .0) in
-    let slots-in = fits-in 1 64 (z .slots) (slots .1) in
+    let constraints = and-yes (fits 2 mostTeams (z .teams) && fits 1 mostSlots (z .slots) && leb (z .games) mostGames) (leb (z .constraints) mostConstraints) (not-false _ e) in
+    let games = and-yes (fits 2 mostTeams (z .teams) && fits 1 mostSlots (z .slots)) (leb (z .games) mostGames) (constraints .0) in
+    let slots = and-yes (fits 2 mostTeams (z .teams)) (fits 1 mostSlots (z .slots)) (games .0) in
+    let teams-in = fits-in 2 mostTeams (z .teams) (slots .0) in
+    let slots-in = fits-in 1 mostSlots (z .slots) (slots .1) in
     record {
       teams-least = teams-in .0;
       teams = teams-in .1;
       slots-least = slots-in .0;
       slots = slots-in .1;
-      games = leb-true (z .games) 1024 (games .1);
-      constraints = leb-true (z .constraints) 1024 (constraints .1);
+      games = leb-true (z .games) mostGames (games .1);
+      constraints = leb-true (z .constraints) mostConstraints (constraints .1);
     }
 
 module _ (s : List ℕ) where

@@ -1,21 +1,28 @@
--- The rules of a constraint by its kind's number and row.
-use mathlib.Core.Path.{_≡_, sym}
+-- The form and the rules by a kind's number, and by a number that is no kind.
+use mathlib.Core.Path.{_≡_, sym, ap, _∙_}
 use mathlib.Core.Bool.{Bool, false}
 use Prim.Native.Nat.{ℕ}
-use Rattle.robinx.specs.Kinds.{kindOf}
-use Rattle.robinx.specs.Rules.{formOf, keeps, obeys}
+use Rattle.robinx.specs.Kinds.{Kind, formOf, asksAt, formAt}
+use Rattle.robinx.specs.Rules.{keeps, obeys}
 use Rattle.robinx.specs.declared.Constraint.{Constraint}
 use Rattle.robinx.specs.declared.Form.{Form}
 use Rattle.robinx.proofs.Sums.{never}
 use Rattle.robinx.proofs.Limits.{obeyed, known}
 use Rattle.robinx.proofs.Unknown.{NoKind, unknown-kind}
 
+pub form-at : (k : ℕ) {kind : ℕ} {r : Form} → kind ≡ k → r ≡ formAt k → r ≡ formAt kind
+form-at k e h = h ∙ ap formAt (sym e)
+
+pub form-of-none : (k : ℕ) → NoKind k → formOf Kind.unknown ≡ formAt k
+unfolding formAt
+form-of-none k h = rw (unknown-kind k h)
+
 module _ (n P : ℕ) (c : Constraint) where
   -- at a kind the rules are those of its row
-  pub at-kind : (k : ℕ) {r : Bool} {f : Form} → c .kind ≡ k → f ≡ formOf (kindOf k) → r ≡ keeps f n P c → r ≡ obeys n P c
+  pub asked-at : (k : ℕ) {r : Bool} → c .kind ≡ k → r ≡ keeps (asksAt k) n P c → r ≡ obeys n P c
   unfolding obeys
-  at-kind k e row h = rw (row, ← e) at h
+  asked-at k e h = h ∙ ap (λ (kind : ℕ). keeps (asksAt kind) n P c) (sym e)
 
   -- a constraint that keeps the rules is of a known kind
-  pub at-none : NoKind (c .kind) → false ≡ obeys n P c
-  at-none h = sym (never (obeys n P c) (λ o. known (obeyed n P c o) (unknown-kind (c .kind) h)))
+  pub asked-none : NoKind (c .kind) → false ≡ obeys n P c
+  asked-none h = sym (never (obeys n P c) (λ o. known (obeyed n P c o) (unknown-kind (c .kind) h)))

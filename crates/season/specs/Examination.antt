@@ -2,15 +2,17 @@
 use mathlib.Core.Path.{_≡_}
 use mathlib.Core.List.{List}
 use Prim.Native.Nat.{ℕ}
-use Rattle.robinx.specs.Season.{Instance}
+use Rattle.robinx.specs.Season.{decode}
 use Rattle.robinx.specs.Books.{allEntries}
 use Rattle.robinx.specs.Refusals.{Sentence, firstTrue}
+use Rattle.season.specs.Sizes.{sizesOf}
 use Rattle.season.specs.declared.Examined.{Examined}
 
--- the number of the first true sentence, or 0 and then E
-pub record Examination (sentences : List Sentence) (m : Instance) (r : Examined) : Type 0 where
+-- the number of the first true sentence about s, or 0 and then the sizes and E
+pub record Examination (sentences : List Sentence) (s : List ℕ) (r : Examined) : Type 0 where
   pub fault : r .fault ≡ firstTrue sentences
-  pub entries : r .fault ≡ 0 → r .entries ≡ allEntries m
+  pub sizes : r .fault ≡ 0 → r .sizes ≡ sizesOf s
+  pub entries : r .fault ≡ 0 → r .entries ≡ allEntries (decode s)
 
 abbrev pub refusedBy : ℕ → Examined
-refusedBy number = record { fault = number; entries = 0 }
+refusedBy number = record { fault = number; sizes = record { teams = 0; slots = 0; games = 0; constraints = 0 }; entries = 0 }

@@ -4,7 +4,7 @@ use mathlib.Core.Bool.{Bool, _||_}
 use Prim.Native.Nat.{ℕ, _+_, _*_, min, max}
 use lib.Dec.{eqb, leb}
 use lib.ListN.{length, getD}
-use Rattle.robinx.specs.Season.{Instance, constraintFrom, mostMeetings}
+use Rattle.robinx.specs.Season.{Instance, constraintFrom, mostTeams, mostMeetings}
 
 -- n teams, these games, no constraint
 abbrev pub ofGames : ℕ → List ℕ → List ℕ → Instance
@@ -20,7 +20,7 @@ ofGames n home away = record {
 
 -- the place of a pair in the table
 abbrev pub pairAt : ℕ → ℕ → ℕ
-pairAt i j = min i j * 32 + max i j
+pairAt i j = min i j * mostTeams + max i j
 
 -- a game of i and j cannot be, after the meetings that the table has
 unfoldable pub refused : List ℕ → ℕ → ℕ → ℕ → Bool

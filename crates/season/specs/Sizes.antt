@@ -21,7 +21,7 @@ pub record Measured (s : List ℕ) (z : Season) : Type 0 where
 unfoldable pub outOfRange : Season → Bool
 outOfRange z =
     not
-    (fits true 2 mostTeams (z .teams)
-    && fits true 1 mostSlots (z .slots)
+    (fits 2 mostTeams (z .teams)
+    && fits 1 mostSlots (z .slots)
     && leb (z .games) mostGames
     && leb (z .constraints) mostConstraints)

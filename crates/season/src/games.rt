@@ -3,6 +3,7 @@ ghost use mathlib.Core.Path.{_≡_};
 ghost use mathlib.Core.Bool.{true, false};
 ghost use Prim.Native.Nat.{_+_, _*_, _<_, _≤_};
 ghost use lib.ListN.{length, getD, set};
+ghost use Rattle.robinx.specs.Season.{mostTeams, mostPlaces};
 ghost use Rattle.robinx.specs.Refusals.{sentence4};
 ghost use Rattle.season.specs.Meetings.{pairAt, refused, ofGames};
 use super::reader::wide;
@@ -10,15 +11,19 @@ use robinx::Season;
 
 // The place of two teams' meetings, whichever is at home.
 fn pair(i: usize, j: usize) -> usize
-    requires { ⌜ (i < 32) × (j < 32) ⌝ }
-    ensures { λ r. ⌜ (r ≡ pairAt i j) × (r < 1024) ⌝ }
+    requires { ⌜ (i < mostTeams) × (j < mostTeams) ⌝ }
+    ensures { λ r. ⌜ (r ≡ pairAt i j) × (r < mostPlaces) ⌝ }
 {
-    if i < j { i * 32 + j } else { j * 32 + i }
+    if i < j {
+        i * Season::TEAMS + j
+    } else {
+        j * Season::TEAMS + i
+    }
 }
 
 // Whether a game cannot be, after the games that are counted. One that can be is counted.
-fn game_bad(counts: &mut [u8; 1024], i: usize, j: usize, n: usize) -> bool
-    requires { ⌜ n ≤ 32 ⌝ }
+fn game_bad(counts: &mut [u8; Season::PLACES], i: usize, j: usize, n: usize) -> bool
+    requires { ⌜ n ≤ mostTeams ⌝ }
     ensures { λ r. ⌜ (r ≡ refused (now (counts .entry)) i j n)
         × (r ≡ false → now (counts .exit) ≡ set (now (counts .entry)) (pairAt i j) (getD (now (counts .entry)) (pairAt i j) 0 + 1)) ⌝ }
 {
@@ -36,10 +41,10 @@ fn game_bad(counts: &mut [u8; 1024], i: usize, j: usize, n: usize) -> bool
 
 // Sentence 4, in one pass over the games.
 pub fn games_bad(homes: &[u8], aways: &[u8], n: usize) -> bool
-    requires { ⌜ (length (now aways) ≡ length (now homes)) × (n ≤ 32) ⌝ }
+    requires { ⌜ (length (now aways) ≡ length (now homes)) × (n ≤ mostTeams) ⌝ }
     ensures { λ r. ⌜ r ≡ sentence4 (ofGames n (now (homes .entry)) (now (aways .entry))) ⌝ }
 {
-    let mut counts = [0u8; 1024];
+    let mut counts = [0u8; Season::PLACES];
     let mut g = 0;
     while g < homes.len() {
         if game_bad(&mut counts, wide(homes[g]), wide(aways[g]), n) {

@@ -1,6 +1,7 @@
 // A season's bytes, read inside their ends, and the first true one of sentences 1 to 5.
 pub mod cursor;
 pub mod games;
+pub mod kinds;
 pub mod reader;
 pub mod rules;
 
@@ -14,17 +15,25 @@ ghost use Rattle.season.specs.Sizes.{sizesOf, Measured, outOfRange};
 ghost use Rattle.season.specs.Examination.{Examination, refusedBy};
 use robinx::Season;
 
-// The number of the first true sentence, or 0 and then the number of deviations.
+// The number of the first true sentence, or 0 and then the sizes and the number of deviations.
 pub struct Examined {
     pub fault: u8,
+    pub sizes: Season,
     pub entries: usize,
 }
 
-fn refused_by(number: u8) -> Examined
+// A refusal with this number.
+pub fn refused_by(number: u8) -> Examined
     ensures { λ r. ⌜ r ≡ refusedBy number ⌝ }
 {
     Examined {
         fault: number,
+        sizes: Season {
+            teams: 0,
+            slots: 0,
+            games: 0,
+            constraints: 0,
+        },
         entries: 0,
     }
 }
@@ -60,27 +69,28 @@ fn meetings_bad(season: &[u8], z: Season) -> bool
 // Sentence 5 and the number of deviations, in one pass over the constraints.
 fn examine_constraints(season: &[u8], z: Season) -> Examined
     requires { ⌜ (Measured (now season) z) × (outOfRange z ≡ false) ⌝ }
-    ensures { λ r. ⌜ Examination (sentence 5 (sentence5 (decode (now (season .entry)))) ∷ []) (decode (now (season .entry))) r ⌝ }
+    ensures { λ r. ⌜ Examination (sentence 5 (sentence5 (decode (now (season .entry)))) ∷ []) (now (season .entry)) r ⌝ }
 {
     let mut e: usize = 0;
     let mut c: usize = 0;
     while c < z.constraints {
         let k = cursor::constraint_of(season, z, c);
-        if !rules::keeps_rules(k, z.teams, z.slots) {
+        if !kinds::obeys(k, z.teams, z.slots) {
             return refused_by(5);
         }
-        e += rules::entries(k);
+        e += rules::entries_of(k);
         c += 1;
     }
     Examined {
         fault: 0,
+        sizes: z,
         entries: e,
     }
 }
 
 // Any bytes, by sentences 1 to 5.
 pub fn examine(season: &[u8]) -> Examined
-    ensures { λ r. ⌜ Examination (ofSeason (now (season .entry))) (decode (now (season .entry))) r ⌝ }
+    ensures { λ r. ⌜ Examination (ofSeason (now (season .entry))) (now (season .entry)) r ⌝ }
 {
     if season.len() < 6 {
         return refused_by(1);

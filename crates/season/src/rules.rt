@@ -1,282 +1,131 @@
 // The rules that a constraint keeps, and how many deviations it has.
 ghost use mathlib.Core.Path.{_≡_};
-ghost use Prim.Native.Nat.{_-_, _*_, _<_, _≤_, _^_};
-ghost use lib.Count.{ones};
-ghost use Rattle.robinx.specs.Rules.{fits, keeps, obeys};
-ghost use Rattle.season.specs.Counted.{row, headKeeps, countsKeep, groupsKeep, severalKeep, sizesKeep, pairsIn, entriesIn};
+ghost use Prim.Native.Nat.{_-_, _≤_, _^_};
+ghost use Rattle.robinx.specs.Season.{mostTeams, mostSlots};
+ghost use Rattle.robinx.specs.Kinds.{asks, formAt};
+ghost use Rattle.robinx.specs.Rules.{fits, asked, holds, functionFits, keeps};
+ghost use Rattle.season.specs.Counted.{headKeeps, countsKeep, groupsKeep, severalKeep, sizesKeep, onesIn};
+use super::kinds::form_of;
+use groups::pairs_of;
+use groups::size_of;
 use robinx::Constraint;
-use robinx::Form;
+use robinx::Field;
+use robinx::Shape;
 
-// The table's words for a column that a kind uses or not.
-const YES: bool = true;
-
-const NO: bool = false;
-
-// A row of the table of kinds, in the order of its columns.
-fn form(
-    modes: u8,
-    kmin: bool,
-    kmax: bool,
-    w: bool,
-    t2: bool,
-    s: bool,
-    least: u8,
-    fewest: u8,
-    several: bool,
-) -> Form
-    ensures { λ r. ⌜ r ≡ row modes kmin kmax w t2 s least fewest several ⌝ }
+// v is in low .. high.
+fn in_range(low: u64, high: u64, v: u64) -> bool
+    ensures { λ r. ⌜ r ≡ fits low high v ⌝ }
 {
-    Form {
-        modes,
-        kmin,
-        kmax,
-        w,
-        t2,
-        s,
-        least,
-        fewest,
-        several,
+    (low <= v) & (v <= high)
+}
+
+// What the field of a row asks of v.
+fn asks(f: Field, kmax: u8, v: u64) -> bool
+    ensures { λ r. ⌜ r ≡ asked f kmax v ⌝ }
+{
+    match f {
+        Field::Zero => v == 0,
+        Field::Any => true,
+        Field::UpToKmax => v <= kmax as u64,
+        Field::Some => 1 <= v,
     }
 }
 
-// A field that is used is in its range, one that is not is 0.
-fn allows(used: bool, low: u64, high: u64, v: u64) -> bool
-    ensures { λ r. ⌜ r ≡ fits used low high v ⌝ }
+// .. and v is at most high.
+fn holds(f: Field, kmax: u8, high: u64, v: u64) -> bool
+    ensures { λ r. ⌜ r ≡ holds f kmax high v ⌝ }
 {
-    if used {
-        (low <= v) & (v <= high)
-    } else {
-        v == 0
-    }
+    asks(f, kmax, v) & (v <= high)
 }
 
-fn head_keeps(f: Form, c: Constraint) -> bool
-    ensures { λ r. ⌜ r ≡ headKeeps f c ⌝ }
+// The function is one of 1 to 5, and squares only where the kind allows it.
+fn function_fits(squares: bool, f: u8) -> bool
+    ensures { λ r. ⌜ r ≡ functionFits squares f ⌝ }
 {
-    allows(true, 1, f.modes as u64, c.mode as u64)
+    ((1 <= f) & (f <= 5)) & (squares | !((2 <= f) & (f <= 3)))
+}
+
+fn head_keeps(first: u8, last: u8, squares: bool, c: Constraint) -> bool
+    ensures { λ r. ⌜ r ≡ headKeeps first last squares c ⌝ }
+{
+    in_range(first as u64, last as u64, c.mode as u64)
         & (c.hard <= 1)
-        & allows(true, 1, 5, c.function as u64)
-        & allows(true, 1, 255, c.weight as u64)
+        & function_fits(squares, c.function)
+        & in_range(1, 255, c.weight as u64)
 }
 
-fn counts_keep(f: Form, c: Constraint) -> bool
-    ensures { λ r. ⌜ r ≡ countsKeep f c ⌝ }
+fn counts_keep(kmin: Field, kmax: Field, w: Field, c: Constraint) -> bool
+    ensures { λ r. ⌜ r ≡ countsKeep kmin kmax w c ⌝ }
 {
-    allows(f.kmin, 0, c.kmax as u64, c.kmin as u64)
-        & allows(f.kmax, f.least as u64, 255, c.kmax as u64)
-        & allows(f.w, 1, 255, c.w as u64)
+    holds(kmin, c.kmax, 255, c.kmin as u64)
+        & holds(kmax, c.kmax, 255, c.kmax as u64)
+        & holds(w, c.kmax, 255, c.w as u64)
 }
 
-// The group of all members below n.
-fn everyone(n: usize) -> u64
-    requires { ⌜ (1 ≤ n) × (n ≤ 64) ⌝ }
-    ensures { λ r. ⌜ r ≡ 2 ^ n - 1 ⌝ }
+fn groups_keep(t2: Field, s: Field, c: Constraint, n: usize, p: usize) -> bool
+    requires { ⌜ (1 ≤ n) × (n ≤ mostTeams) × (1 ≤ p) × (p ≤ mostSlots) ⌝ }
+    ensures { λ r. ⌜ r ≡ groupsKeep t2 s n p c ⌝ }
 {
-    u64::MAX >> (64 - n)
-}
-
-fn groups_keep(f: Form, c: Constraint, n: usize, p: usize) -> bool
-    requires { ⌜ (1 ≤ n) × (n ≤ 32) × (1 ≤ p) × (p ≤ 64) ⌝ }
-    ensures { λ r. ⌜ r ≡ groupsKeep f n p c ⌝ }
-{
-    let teams = everyone(n);
-    allows(true, 1, teams, c.t1 as u64)
-        & allows(f.t2, 1, teams, c.t2 as u64)
-        & allows(f.s, 1, everyone(p), c.s)
-}
-
-// A group's size.
-fn teams_in(t: u32) -> usize
-    ensures { λ r. ⌜ (r ≡ ones t) × (r ≤ 32) ⌝ }
-{
-    u32::count_ones(t) as usize
-}
-
-fn slots_in(s: u64) -> usize
-    ensures { λ r. ⌜ r ≡ ones s ⌝ }
-{
-    u64::count_ones(s) as usize
+    let teams = groups::everyone(n) as u64;
+    in_range(1, teams, c.t1 as u64)
+        & holds(t2, c.kmax, teams, c.t2 as u64)
+        & holds(s, c.kmax, masks::all(p), c.s)
 }
 
 // One of the groups has more than one team, where the kind asks it.
-fn several_keep(f: Form, t1: u32, t2: u32) -> bool
-    ensures { λ r. ⌜ r ≡ severalKeep f t1 t2 ⌝ }
+fn several_keep(several: bool, t1: u32, t2: u32) -> bool
+    ensures { λ r. ⌜ r ≡ severalKeep several t1 t2 ⌝ }
 {
-    if f.several {
-        (2 <= teams_in(t1)) | (2 <= teams_in(t2))
+    if several {
+        (2 <= size_of(t1)) | (2 <= size_of(t2))
     } else {
         true
     }
 }
 
-fn sizes_keep(f: Form, c: Constraint) -> bool
-    ensures { λ r. ⌜ r ≡ sizesKeep f c ⌝ }
+fn sizes_keep(fewest: u8, several: bool, c: Constraint) -> bool
+    ensures { λ r. ⌜ r ≡ sizesKeep fewest several c ⌝ }
 {
-    (f.fewest as usize <= teams_in(c.t1)) & several_keep(f, c.t1, c.t2)
+    (fewest as usize <= size_of(c.t1)) & several_keep(several, c.t1, c.t2)
 }
 
-// Whether a constraint keeps every rule of a kind with this row.
-fn keeps(f: Form, c: Constraint, n: usize, p: usize) -> bool
-    requires { ⌜ (1 ≤ n) × (n ≤ 32) × (1 ≤ p) × (p ≤ 64) ⌝ }
-    ensures { λ r. ⌜ r ≡ keeps f n p c ⌝ }
+// Whether a constraint keeps every rule of a kind that asks this. The row comes as single values, so that each call is compiled with its
+// constants.
+pub fn keeps(
+    first: u8,
+    last: u8,
+    squares: bool,
+    kmin: Field,
+    kmax: Field,
+    w: Field,
+    t2: Field,
+    s: Field,
+    fewest: u8,
+    several: bool,
+    c: Constraint,
+    n: usize,
+    p: usize,
+) -> bool
+    requires { ⌜ (1 ≤ n) × (n ≤ mostTeams) × (1 ≤ p) × (p ≤ mostSlots) ⌝ }
+    ensures { λ r. ⌜ r ≡ keeps (asks first last squares kmin kmax w t2 s fewest several) n p c ⌝ }
 {
-    head_keeps(f, c) & counts_keep(f, c) & groups_keep(f, c, n, p) & sizes_keep(f, c)
-}
-
-fn capacity_keeps(c: Constraint, n: usize, p: usize) -> bool
-    requires { ⌜ (10 ≤ c .kind) × (c .kind ≤ 19) × (1 ≤ n) × (n ≤ 32) × (1 ≤ p) × (p ≤ 64) ⌝ }
-    ensures { λ r. ⌜ r ≡ obeys n p c ⌝ }
-{
-    let kind = c.kind;
-    match kind {
-        11 => keeps(form(3, YES, YES, NO, NO, YES, 0, 1, NO), c, n, p),
-        12 => keeps(form(3, YES, YES, NO, YES, YES, 0, 1, YES), c, n, p),
-        13 => keeps(form(3, YES, YES, YES, YES, NO, 0, 1, NO), c, n, p),
-        14 => keeps(form(6, YES, YES, NO, YES, YES, 0, 2, NO), c, n, p),
-        _ => false,
-    }
-}
-
-fn game_keeps(c: Constraint, n: usize, p: usize) -> bool
-    requires { ⌜ (20 ≤ c .kind) × (c .kind ≤ 29) × (1 ≤ n) × (n ≤ 32) × (1 ≤ p) × (p ≤ 64) ⌝ }
-    ensures { λ r. ⌜ r ≡ obeys n p c ⌝ }
-{
-    let kind = c.kind;
-    match kind {
-        21 => keeps(form(1, YES, YES, NO, YES, YES, 0, 1, NO), c, n, p),
-        _ => false,
-    }
-}
-
-fn break_keeps(c: Constraint, n: usize, p: usize) -> bool
-    requires { ⌜ (30 ≤ c .kind) × (c .kind ≤ 39) × (1 ≤ n) × (n ≤ 32) × (1 ≤ p) × (p ≤ 64) ⌝ }
-    ensures { λ r. ⌜ r ≡ obeys n p c ⌝ }
-{
-    let kind = c.kind;
-    match kind {
-        31 => keeps(form(6, NO, YES, NO, NO, YES, 0, 1, NO), c, n, p),
-        32 => keeps(form(6, NO, YES, NO, NO, YES, 1, 2, NO), c, n, p),
-        _ => false,
-    }
-}
-
-fn fairness_keeps(c: Constraint, n: usize, p: usize) -> bool
-    requires { ⌜ (40 ≤ c .kind) × (c .kind ≤ 49) × (1 ≤ n) × (n ≤ 32) × (1 ≤ p) × (p ≤ 64) ⌝ }
-    ensures { λ r. ⌜ r ≡ obeys n p c ⌝ }
-{
-    let kind = c.kind;
-    match kind {
-        41 => keeps(form(1, NO, YES, NO, NO, YES, 0, 1, NO), c, n, p),
-        42 => keeps(form(3, NO, YES, NO, NO, YES, 0, 2, NO), c, n, p),
-        _ => false,
-    }
-}
-
-fn separation_keeps(c: Constraint, n: usize, p: usize) -> bool
-    requires { ⌜ (50 ≤ c .kind) × (c .kind ≤ 59) × (1 ≤ n) × (n ≤ 32) × (1 ≤ p) × (p ≤ 64) ⌝ }
-    ensures { λ r. ⌜ r ≡ obeys n p c ⌝ }
-{
-    let kind = c.kind;
-    match kind {
-        51 => keeps(form(1, NO, NO, YES, NO, NO, 0, 2, NO), c, n, p),
-        _ => false,
-    }
-}
-
-// Whether a constraint keeps every rule of its kind. An unknown kind has no mode, so no constraint of it does.
-pub fn keeps_rules(c: Constraint, n: usize, p: usize) -> bool
-    requires { ⌜ (1 ≤ n) × (n ≤ 32) × (1 ≤ p) × (p ≤ 64) ⌝ }
-    ensures { λ r. ⌜ r ≡ obeys n p c ⌝ }
-{
-    let kind = c.kind;
-    match kind {
-        10..=19 => capacity_keeps(c, n, p),
-        20..=29 => game_keeps(c, n, p),
-        30..=39 => break_keeps(c, n, p),
-        40..=49 => fairness_keeps(c, n, p),
-        50..=59 => separation_keeps(c, n, p),
-        _ => false,
-    }
-}
-
-fn pairs_of(t: u32) -> usize
-    ensures { λ r. ⌜ r ≡ pairsIn t ⌝ }
-{
-    let k = teams_in(t);
-    (k * k - k) / 2
-}
-
-fn entries_of_capacity(c: Constraint) -> usize
-    requires { ⌜ (10 ≤ c .kind) × (c .kind ≤ 19) ⌝ }
-    ensures { λ r. ⌜ r ≡ entriesIn c ⌝ }
-{
-    let kind = c.kind;
-    match kind {
-        11 => teams_in(c.t1),
-        12 => teams_in(c.t1),
-        13 => teams_in(c.t1),
-        14 => { if c.mode <= 3 { 1 } else { slots_in(c.s) } }
-        _ => 0,
-    }
-}
-
-fn entries_of_game(c: Constraint) -> usize
-    requires { ⌜ (20 ≤ c .kind) × (c .kind ≤ 29) ⌝ }
-    ensures { λ r. ⌜ r ≡ entriesIn c ⌝ }
-{
-    let kind = c.kind;
-    match kind {
-        21 => 1,
-        _ => 0,
-    }
-}
-
-fn entries_of_break(c: Constraint) -> usize
-    requires { ⌜ (30 ≤ c .kind) × (c .kind ≤ 39) ⌝ }
-    ensures { λ r. ⌜ r ≡ entriesIn c ⌝ }
-{
-    let kind = c.kind;
-    match kind {
-        31 => teams_in(c.t1),
-        32 => 1,
-        _ => 0,
-    }
-}
-
-fn entries_of_fairness(c: Constraint) -> usize
-    requires { ⌜ (40 ≤ c .kind) × (c .kind ≤ 49) ⌝ }
-    ensures { λ r. ⌜ r ≡ entriesIn c ⌝ }
-{
-    let kind = c.kind;
-    match kind {
-        41 => teams_in(c.t1),
-        42 => pairs_of(c.t1),
-        _ => 0,
-    }
-}
-
-fn entries_of_separation(c: Constraint) -> usize
-    requires { ⌜ (50 ≤ c .kind) × (c .kind ≤ 59) ⌝ }
-    ensures { λ r. ⌜ r ≡ entriesIn c ⌝ }
-{
-    let kind = c.kind;
-    match kind {
-        51 => pairs_of(c.t1),
-        _ => 0,
-    }
+    head_keeps(first, last, squares, c)
+        & counts_keep(kmin, kmax, w, c)
+        & groups_keep(t2, s, c, n, p)
+        & sizes_keep(fewest, several, c)
 }
 
 // How many deviations a constraint has.
-pub fn entries(c: Constraint) -> usize
-    ensures { λ r. ⌜ r ≡ entriesIn c ⌝ }
+pub fn entries_of(c: Constraint) -> usize
+    ensures { λ r. ⌜ r ≡ onesIn (formAt (c .kind) .shape) c ⌝ }
 {
-    let kind = c.kind;
-    match kind {
-        10..=19 => entries_of_capacity(c),
-        20..=29 => entries_of_game(c),
-        30..=39 => entries_of_break(c),
-        40..=49 => entries_of_fairness(c),
-        50..=59 => entries_of_separation(c),
-        _ => 0,
+    let form = form_of(c.kind);
+    let shape = form.shape;
+    match shape {
+        Shape::Nothing => 0,
+        Shape::One => 1,
+        Shape::EachTeam => size_of(c.t1),
+        Shape::EachPair => pairs_of(c.t1),
+        Shape::OneOrEachSlot => { if c.mode <= 3 { 1 } else { masks::size(c.s) } }
     }
 }

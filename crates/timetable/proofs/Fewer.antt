@@ -1,4 +1,4 @@
--- Tables for all 32 teams are tables for the n teams of a season: no game has another team. Assumes nothing.
+-- Tables for the largest number of teams are tables for the n teams of a season: no game has another team. Assumes nothing.
 use mathlib.Core.Path.{_≡_, sym, ap, _∙_}
 use mathlib.Core.List.{List}
 use mathlib.Core.Bool.{and-false}
@@ -8,11 +8,12 @@ use native.Mathlib.Decide.{ℕ-discrete}
 use lib.ListN.{length, getD}
 use borrow.Author.Tests.{ne-eqb}
 use Rattle.robinx.specs.Sums.{sumTo}
+use Rattle.robinx.specs.Season.{mostTeams}
 use Rattle.robinx.specs.Timetable.{isAt, meetings}
 use Rattle.robinx.proofs.Sums.{sum-zero}
-use Rattle.timetable.specs.Tables.{xOf, Shows, InRange}
+use Rattle.timetable.specs.Tables.{Tables, xOf, Shows, InRange}
 
-pub in-range-32 : {n : ℕ} {homes aways sheet : List ℕ} → InRange n homes aways sheet → InRange 32 homes aways sheet
+pub in-range-32 : {n : ℕ} {homes aways sheet : List ℕ} → InRange n homes aways sheet → InRange mostTeams homes aways sheet
 in-range-32 range = record {
   teams = record {
     few = omega arith;
@@ -47,20 +48,20 @@ module _ (n : ℕ) (homes aways sheet : List ℕ) (range : InRange n homes aways
   no-host i j k l =
       sum-zero (length homes) (λ g low. rw (ne-eqb (getD homes g 0) i (λ e. omega (arith, range .teams .home-below g low))))
 
-  pub shows-for : {home away meets : List ℕ} → Shows 32 home away meets homes aways sheet → Shows n home away meets homes aways sheet
-  shows-for {meets = meets} shows = record {
+  pub shows-for : {t : Tables} → Shows mostTeams t homes aways sheet → Shows n t homes aways sheet
+  shows-for {t} shows = record {
     tied = record {
       sized = shows .tied .sized;
-      home-row = λ t k lt lk.
-          shows .tied .home-row t k (all t lt) lk
-          ∙ sum-fewer (λ j. xOf meets t j k) n 32 (range .teams .few) (λ j lj uj. shows .x t j k (all t lt) uj lk ∙ no-guest t j k lj);
-      away-row = λ t k lt lk.
-          shows .tied .away-row t k (all t lt) lk
-          ∙ sum-fewer (λ i. xOf meets i t k) n 32 (range .teams .few) (λ i li ui. shows .x i t k ui (all t lt) lk ∙ no-host i t k li);
-      once = λ t k lt lk. shows .tied .once t k (all t lt) lk;
+      home-row = λ i k li lk.
+          shows .tied .home-row i k (all i li) lk
+          ∙ sum-fewer (λ j. xOf (t .meets) i j k) n mostTeams (range .teams .few) (λ j lj uj. shows .x i j k (all i li) uj lk ∙ no-guest i j k lj);
+      away-row = λ j k lj lk.
+          shows .tied .away-row j k (all j lj) lk
+          ∙ sum-fewer (λ i. xOf (t .meets) i j k) n mostTeams (range .teams .few) (λ i li ui. shows .x i j k ui (all j lj) lk ∙ no-host i j k li);
+      once = λ i k li lk. shows .tied .once i k (all i li) lk;
     };
     x = λ i j k li lj lk. shows .x i j k (all i li) (all j lj) lk;
   }
     where
-      all : (t : ℕ) → t < n → t < 32
-      all t l = omega (arith, range .teams .few)
+      all : (i : ℕ) → i < n → i < mostTeams
+      all i l = omega (arith, range .teams .few)

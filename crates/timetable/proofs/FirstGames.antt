@@ -12,10 +12,11 @@ use lib.Seq.{getD-set-same, getD-set-other, ext-getD}
 use borrow.Author.Tests.{ltb-true, ltb-false}
 use Rattle.robinx.specs.Sums.{only}
 use Rattle.robinx.specs.Groups.{bit}
+use Rattle.robinx.specs.Season.{mostTeams, mostPlaces}
 use Rattle.robinx.specs.Timetable.{isAt, meetings, clash}
 use Rattle.robinx.proofs.Sums.{never, only-le, sum-zero, sum-step, sum-bound}
-use Rattle.masks.proofs.Bits.{none-bit}
-use Rattle.timetable.specs.Tables.{cell, xOf, Fits, Empty, unplaced}
+use Rattle.robinx.proofs.Bits.{none-bit}
+use Rattle.timetable.specs.Tables.{Tables, cell, xOf, Fits, Empty, unplaced}
 use Rattle.timetable.proofs.Points.{sum-change}
 use Rattle.timetable.proofs.Clash.{clash-is, clashing-kept}
 
@@ -70,33 +71,33 @@ module _ (sheet : List ℕ) where
 
 module _ (n : ℕ) (homes aways sheet : List ℕ) where
   -- before the first turn
-  pub fits-none : (home away meets : List ℕ) → Empty home away meets → Fits n true home away meets homes aways (placedTo sheet 0)
+  pub fits-none : (t : Tables) → Empty t → Fits n true t homes aways (placedTo sheet 0)
   unfolding meetings isAt
-  fits-none home away meets empty = record {
+  fits-none t empty = record {
     no-clash = sym (ap not (never _ (λ e. let c = clash-is homes aways (placedTo sheet 0) e in omega (arith, later sheet 0 c.g (omega arith), c.first .slot))));
     shows = λ e. record {
       tied = record {
         sized = record {
-          home-length = ap length (empty .home-is) ∙ length-replicate {A = ℕ} 32 0;
-          away-length = ap length (empty .away-is) ∙ length-replicate {A = ℕ} 32 0;
-          meets-length = ap length (empty .meets-is) ∙ length-replicate {A = ℕ} 1024 0;
+          home-length = ap length (empty .home-is) ∙ length-replicate {A = ℕ} mostTeams 0;
+          away-length = ap length (empty .away-is) ∙ length-replicate {A = ℕ} mostTeams 0;
+          meets-length = ap length (empty .meets-is) ∙ length-replicate {A = ℕ} mostPlaces 0;
         };
-        home-row = λ t k lt lk. at-home t k ∙ sym (sum-zero n (λ j lj. no-meeting t j k));
-        away-row = λ t k lt lk. at-away t k ∙ sym (sum-zero n (λ i li. no-meeting i t k));
-        once = λ t k lt lk. omega (arith, at-home t k, at-away t k);
+        home-row = λ i k li lk. at-home i k ∙ sym (sum-zero n (λ j lj. no-meeting i j k));
+        away-row = λ j k lj lk. at-away j k ∙ sym (sum-zero n (λ i li. no-meeting i j k));
+        once = λ i k li lk. omega (arith, at-home i k, at-away i k);
       };
       x = λ i j k li lj lk. no-meeting i j k ∙ sym (none-met i j k);
     };
   }
     where
-      at-home : (t k : ℕ) → bit (getD home t 0) k ≡ 0
-      at-home t k = none-bit-at 32 home t k (empty .home-is)
+      at-home : (i k : ℕ) → bit (getD (t .home) i 0) k ≡ 0
+      at-home i k = none-bit-at mostTeams (t .home) i k (empty .home-is)
 
-      at-away : (t k : ℕ) → bit (getD away t 0) k ≡ 0
-      at-away t k = none-bit-at 32 away t k (empty .away-is)
+      at-away : (j k : ℕ) → bit (getD (t .away) j 0) k ≡ 0
+      at-away j k = none-bit-at mostTeams (t .away) j k (empty .away-is)
 
-      no-meeting : (i j k : ℕ) → xOf meets i j k ≡ 0
-      no-meeting i j k = none-bit-at 1024 meets (cell i j) k (empty .meets-is)
+      no-meeting : (i j k : ℕ) → xOf (t .meets) i j k ≡ 0
+      no-meeting i j k = none-bit-at mostPlaces (t .meets) (cell i j) k (empty .meets-is)
 
       none-met : (i j k : ℕ) → meetings homes aways (placedTo sheet 0) i j k ≡ 0
       none-met i j k = sum-zero (length homes) (λ g lg. rw (later sheet 0 g (omega arith), eqb·zero-suc k, and-false))

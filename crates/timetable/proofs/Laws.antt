@@ -8,27 +8,28 @@ use native.Mathlib.Decide.{ℕ-discrete}
 use lib.ListN.{length, getD, set, length-set}
 use lib.Seq.{getD-set-same, getD-set-other, set-set, set-getD}
 use Rattle.robinx.specs.Groups.{has}
+use Rattle.robinx.specs.Season.{mostSlots}
 use Rattle.robinx.specs.Timetable.{meetings, clash}
 use Rattle.robinx.proofs.Sums.{or-no, never, term-le-sum}
-use Rattle.masks.proofs.Bits.{out-bit}
-use Rattle.timetable.specs.Tables.{cell, xOf, Sized, Shows, InRange, busy, taken, joinedAt, withoutAt}
+use Rattle.robinx.proofs.Bits.{out-bit}
+use Rattle.timetable.specs.Tables.{Tables, tables, cell, xOf, Sized, Shows, InRange, busy, taken, putInto, takenOutOf}
 use Rattle.timetable.proofs.Points.{joined-more, without-less, set-gains, set-loses}
 use Rattle.timetable.proofs.Tied.{MeetsMore, shows-more, shows-less}
 use Rattle.timetable.proofs.Sheet.{meetings-more}
 use Rattle.timetable.proofs.Clash.{or-cases, isTeam, is-host, is-guest, team-cases, Plays, Clashing, is-clash, clash-is, plays-kept, clashing-kept}
 use Rattle.timetable.proofs.Games.{game-meets, game-home, game-away, game-busy, busy-game}
 
-pub in-range-set : (n : ℕ) (homes aways sheet : List ℕ) (g b : ℕ)
-    → b ≤ 64
+pub in-range-set : {n : ℕ} {homes aways sheet : List ℕ} (g b : ℕ)
+    → b ≤ mostSlots
     → InRange n homes aways sheet
     → InRange n homes aways (set sheet g b)
-in-range-set n homes aways sheet g b lb range = record {
+in-range-set {homes = homes} {sheet = sheet} g b lb range = record {
   teams = range .teams;
   sheet-length = length-set sheet g b ∙ range .sheet-length;
   slot-low = λ h lh. go h lh (ℕ-discrete h g);
 }
   where
-    go : (h : ℕ) → h < length homes → Dec (h ≡ g) → getD (set sheet g b) h 0 ≤ 64
+    go : (h : ℕ) → h < length homes → Dec (h ≡ g) → getD (set sheet g b) h 0 ≤ mostSlots
     go h lh (yes e) = rw (e, getD-set-same sheet g b 0 (omega (arith, range .sheet-length))) lb
     go h lh (no e) = rw (getD-set-other sheet g h b 0 e) (range .slot-low h lh)
 
@@ -62,60 +63,49 @@ same-test true b to from = sym (to refl)
 same-test false b to from = sym (never b (λ e. true≢false (sym (from e))))
 
 -- Game g of a sheet whose tables these are.
-module _ (n : ℕ) (home away meets homes aways sheet : List ℕ) (range : InRange n homes aways sheet) (g : ℕ) (low : g < length homes)
-    (shows : Shows n home away meets homes aways sheet) where
-  i : ℕ
+module _ {n : ℕ} {t : Tables} {homes aways sheet : List ℕ} (range : InRange n homes aways sheet) (g : ℕ) (low : g < length homes)
+    (shows : Shows n t homes aways sheet) where
+  abbrev i : ℕ
   i = getD homes g 0
 
-  j : ℕ
+  abbrev j : ℕ
   j = getD aways g 0
 
   li : i < n
-  unfolding i
   li = range .teams .home-below g low
 
   lj : j < n
-  unfolding j
   lj = range .teams .away-below g low
 
-  in-home : i < length home
+  in-home : i < length (t .home)
   in-home = omega (arith, li, range .teams .few, shows .tied .sized .home-length)
 
-  in-away : j < length away
+  in-away : j < length (t .away)
   in-away = omega (arith, lj, range .teams .few, shows .tied .sized .away-length)
 
-  in-meets : cell i j < length meets
+  in-meets : cell i j < length (t .meets)
   in-meets = omega (arith, li, lj, range .teams .few, shows .tied .sized .meets-length)
 
-  sized-set : (u v w : ℕ) → Sized (set home i u) (set away j v) (set meets (cell i j) w)
+  sized-set : (u v w : ℕ) → Sized (tables (set (t .home) i u) (set (t .away) j v) (set (t .meets) (cell i j) w))
   sized-set u v w = record {
-    home-length = length-set home i u ∙ shows .tied .sized .home-length;
-    away-length = length-set away j v ∙ shows .tied .sized .away-length;
-    meets-length = length-set meets (cell i j) w ∙ shows .tied .sized .meets-length;
+    home-length = length-set (t .home) i u ∙ shows .tied .sized .home-length;
+    away-length = length-set (t .away) j v ∙ shows .tied .sized .away-length;
+    meets-length = length-set (t .meets) (cell i j) w ∙ shows .tied .sized .meets-length;
   }
 
-  pub lift-law : (k : ℕ)
-      → getD sheet g 0 ≡ suc k
-      → Shows n
-      (withoutAt home (getD homes g 0) k)
-      (withoutAt away (getD aways g 0) k)
-      (withoutAt meets (cell (getD homes g 0) (getD aways g 0)) k)
-      homes aways (set sheet g 0)
-  unfolding i j
+  pub lift-law : (k : ℕ) → getD sheet g 0 ≡ suc k → Shows n (takenOutOf (getD homes g 0) (getD aways g 0) (suc k) t) homes aways (set sheet g 0)
   lift-law k placed =
-      shows-less n i j k
-      (withoutAt home i k) (withoutAt away j k) (withoutAt meets (cell i j) k) home away meets
-      (range .teams .few) li lj
-      (set-loses home i k in-home _ (without-less (getD home i 0) k (game-home n home away meets homes aways sheet range shows k lk g low placed)))
-      (set-loses away j k in-away _ (without-less (getD away j 0) k (game-away n home away meets homes aways sheet range shows k lk g low placed)))
-      (set-loses meets (cell i j) k in-meets _
-      (without-less (getD meets (cell i j) 0) k (game-meets n home away meets homes aways sheet range shows k lk g low placed)))
+      shows-less n i j k (takenOutOf i j (suc k) t) t (range .teams .few) li lj
+      (set-loses (t .home) i k in-home _ (without-less (getD (t .home) i 0) k (game-home range shows k lk g low placed)))
+      (set-loses (t .away) j k in-away _ (without-less (getD (t .away) j 0) k (game-away range shows k lk g low placed)))
+      (set-loses (t .meets) (cell i j) k in-meets _
+      (without-less (getD (t .meets) (cell i j) 0) k (game-meets range shows k lk g low placed)))
       homes aways (set sheet g 0) sheet
       more
       (sized-set _ _ _)
       shows
     where
-      lk : k < 64
+      lk : k < mostSlots
       lk = omega (arith, range .slot-low g low)
 
       back : set (set sheet g 0) g (suc k) ≡ sheet
@@ -130,34 +120,31 @@ module _ (n : ℕ) (home away meets homes aways sheet : List ℕ) (range : InRan
           ∙ meetings-more n homes aways (set sheet g 0) g k (length-set sheet g 0 ∙ range .sheet-length) low slot p q a lp lq
 
   -- The game has no slot and gets slot k.
-  module _ (k : ℕ) (lk : k < 64) (lifted : getD sheet g 0 ≡ 0) where
-    pub place-law : taken home away (getD homes g 0) (getD aways g 0) k ≡ false
-        → Shows n
-        (joinedAt home (getD homes g 0) k)
-        (joinedAt away (getD aways g 0) k)
-        (joinedAt meets (cell (getD homes g 0) (getD aways g 0)) k)
-        homes aways (set sheet g (suc k))
-    unfolding i j
+  module _ (k : ℕ) (lk : k < mostSlots) (lifted : getD sheet g 0 ≡ 0) where
+    -- one of its teams is busy there
+    abbrev occupied : Bool
+    occupied = taken (t .home) (t .away) i j k
+
+    pub place-law : taken (t .home) (t .away) (getD homes g 0) (getD aways g 0) k ≡ false
+        → Shows n (putInto (getD homes g 0) (getD aways g 0) (suc k) t) homes aways (set sheet g (suc k))
     place-law none =
-        let free = or-no (busy home away i k) (busy home away j k) none in
-        let host = or-no (has (getD home i 0) k) (has (getD away i 0) k) (free .0) in
-        let guest = or-no (has (getD home j 0) k) (has (getD away j 0) k) (free .1) in
-        let at-home = out-bit (getD home i 0) k (host .0) in
-        let at-away = out-bit (getD away j 0) k (guest .1) in
-        let not-met : xOf meets i j k ≡ 0 =
-        omega (arith, at-home, shows .tied .home-row i k li lk, term-le-sum (λ q. xOf meets i q k) j n lj) in
-        shows-more n i j k
-        home away meets (joinedAt home i k) (joinedAt away j k) (joinedAt meets (cell i j) k)
-        (range .teams .few) li lj
-        (set-gains home i k in-home _ (joined-more (getD home i 0) k at-home))
-        (set-gains away j k in-away _ (joined-more (getD away j 0) k at-away))
-        (set-gains meets (cell i j) k in-meets _ (joined-more (getD meets (cell i j) 0) k not-met))
+        let free = or-no (busy (t .home) (t .away) i k) (busy (t .home) (t .away) j k) none in
+        let host = or-no (has (getD (t .home) i 0) k) (has (getD (t .away) i 0) k) (free .0) in
+        let guest = or-no (has (getD (t .home) j 0) k) (has (getD (t .away) j 0) k) (free .1) in
+        let at-home = out-bit (getD (t .home) i 0) k (host .0) in
+        let at-away = out-bit (getD (t .away) j 0) k (guest .1) in
+        let not-met : xOf (t .meets) i j k ≡ 0 =
+        omega (arith, at-home, shows .tied .home-row i k li lk, term-le-sum (λ q. xOf (t .meets) i q k) j n lj) in
+        shows-more n i j k t (putInto i j (suc k) t) (range .teams .few) li lj
+        (set-gains (t .home) i k in-home _ (joined-more (getD (t .home) i 0) k at-home))
+        (set-gains (t .away) j k in-away _ (joined-more (getD (t .away) j 0) k at-away))
+        (set-gains (t .meets) (cell i j) k in-meets _ (joined-more (getD (t .meets) (cell i j) 0) k not-met))
         homes aways sheet (set sheet g (suc k))
         (meetings-more n homes aways sheet g k (range .sheet-length) low lifted)
         (sized-set _ _ _)
         (range .teams .differ g low)
-        (omega (arith, at-home, out-bit (getD away i 0) k (host .1)))
-        (omega (arith, at-away, out-bit (getD home j 0) k (guest .0)))
+        (omega (arith, at-home, out-bit (getD (t .away) i 0) k (host .1)))
+        (omega (arith, at-away, out-bit (getD (t .home) j 0) k (guest .0)))
         shows
 
     after : List ℕ
@@ -172,51 +159,42 @@ module _ (n : ℕ) (home away meets homes aways sheet : List ℕ) (range : InRan
     there h e = getD-set-other sheet g h (suc k) 0 e
 
     -- a busy team of the game has another game in the slot
-    busy-clash : (t : ℕ) → t < n → isTeam homes aways t g ≡ true → busy home away t k ≡ true → clash homes aways after ≡ true
-    busy-clash t lt team b =
-        let other = busy-game n home away meets homes aways sheet range shows k lk t lt b in
+    busy-clash : (s : ℕ) → s < n → isTeam homes aways s g ≡ true → busy (t .home) (t .away) s k ≡ true → clash homes aways after ≡ true
+    busy-clash s ls team b =
+        let other = busy-game range shows k lk s ls b in
         let apart : other .0 ≡ g → ⊥ = λ e. omega (arith, lifted, other .1 .slot, ap (λ (z : ℕ). getD sheet z 0) e) in
         is-clash homes aways after (record {
-          t = t;
+          t = s;
           k = k;
           g = g;
           h = other .0;
           apart = λ e. apart (sym e);
           first = record { low = low; slot = here; team = team };
-          second = plays-kept homes aways (λ s. there (other .0) apart ∙ s) (other .1);
+          second = plays-kept homes aways (λ p. there (other .0) apart ∙ p) (other .1);
         })
 
     -- another game in a clash with it
-    clash-busy : (t a h : ℕ)
-        → (g ≡ h → ⊥)
-        → Plays homes aways after t a g
-        → Plays homes aways after t a h
-        → taken home away (getD homes g 0) (getD aways g 0) k ≡ true
-    clash-busy t a h apart mine other =
+    clash-busy : (s a h : ℕ) → (g ≡ h → ⊥) → Plays homes aways after s a g → Plays homes aways after s a h → occupied ≡ true
+    clash-busy s a h apart mine other =
         let slot : suc a ≡ suc k = sym (mine .slot) ∙ here in
-        let b = game-busy n home away meets homes aways sheet range shows k lk (record {
+        let b = game-busy range shows k lk (record {
           low = other .low;
           slot = sym (there h (λ e. apart (sym e))) ∙ other .slot ∙ slot;
           team = other .team;
         }) in
-        team-cases homes aways (λ s. busy home away s k ≡ true → taken home away (getD homes g 0) (getD aways g 0) k ≡ true)
-        t g (mine .team) (λ e. rw e) (λ e. rw (e, or-true)) b
+        team-cases homes aways (λ q. busy (t .home) (t .away) q k ≡ true → occupied ≡ true) s g (mine .team) (λ e. rw e) (λ e. rw (e, or-true)) b
 
     pub busy-is-clash : clash homes aways sheet ≡ false
-        → taken home away (getD homes g 0) (getD aways g 0) k ≡ clash homes aways (set sheet g (suc k))
+        → taken (t .home) (t .away) (getD homes g 0) (getD aways g 0) k ≡ clash homes aways (set sheet g (suc k))
     unfolding after
     busy-is-clash none = same-test _ _ to from
       where
-        to : taken home away (getD homes g 0) (getD aways g 0) k ≡ true → clash homes aways after ≡ true
+        to : occupied ≡ true → clash homes aways after ≡ true
         to e =
-            or-cases (busy home away (getD homes g 0) k) (busy home away (getD aways g 0) k) e
-            (busy-clash (getD homes g 0) (range .teams .home-below g low) (is-host homes aways g))
-            (busy-clash (getD aways g 0) (range .teams .away-below g low) (is-guest homes aways g))
+            or-cases (busy (t .home) (t .away) i k) (busy (t .home) (t .away) j k) e
+            (busy-clash i li (is-host homes aways g)) (busy-clash j lj (is-guest homes aways g))
 
-        go : (c : Clashing homes aways after)
-            → Dec (c .g ≡ g)
-            → Dec (c .h ≡ g)
-            → taken home away (getD homes g 0) (getD aways g 0) k ≡ true
+        go : (c : Clashing homes aways after) → Dec (c .g ≡ g) → Dec (c .h ≡ g) → occupied ≡ true
         go c (yes p) q = clash-busy c.t c.k c.h (λ e. c.apart (p ∙ e)) (rw p at c.first) c.second
         go c (no p) (yes q) = clash-busy c.t c.k c.g (λ e. c.apart (sym e ∙ sym q)) (rw q at c.second) c.first
         go c (no p) (no q) =
@@ -224,5 +202,5 @@ module _ (n : ℕ) (home away meets homes aways sheet : List ℕ) (range : InRan
             (true≢false
             (sym (clashing-kept homes aways after sheet c (λ a s. sym (there c.g p) ∙ s) (λ a s. sym (there c.h q) ∙ s)) ∙ none))
 
-        from : clash homes aways after ≡ true → taken home away (getD homes g 0) (getD aways g 0) k ≡ true
+        from : clash homes aways after ≡ true → occupied ≡ true
         from e = let c = clash-is homes aways after e in go c (ℕ-discrete c.g g) (ℕ-discrete c.h g)

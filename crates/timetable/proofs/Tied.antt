@@ -9,10 +9,11 @@ use lib.ListN.{getD}
 use borrow.Author.Tests.{eqb-true, eqb-false, eq-eqb, ne-eqb}
 use Rattle.robinx.specs.Sums.{sumTo, only}
 use Rattle.robinx.specs.Groups.{bit}
+use Rattle.robinx.specs.Season.{mostTeams}
 use Rattle.robinx.specs.Timetable.{X, meetings}
 use Rattle.robinx.proofs.Sums.{sum-add, sum-zero}
 use Rattle.robinx.proofs.Ext.{sum-ext}
-use Rattle.timetable.specs.Tables.{cell, xOf, Sized, Tied, Shows}
+use Rattle.timetable.specs.Tables.{Tables, cell, xOf, Sized, Tied, Shows}
 use Rattle.timetable.proofs.Points.{Gains, sum-point}
 
 -- x′ is x with one more meeting of i and j at i's venue in slot k
@@ -20,7 +21,7 @@ abbrev pub MeetsMore : ℕ → ℕ → ℕ → ℕ → X → X → Type 0
 MeetsMore n i j k x x′ =
     (p q a : ℕ) → p < n → q < n → x′ p q a ≡ x p q a + only (eqb i p && eqb j q && eqb k a) 1
 
-cell-eqb : (i j p q : ℕ) → j < 32 → q < 32 → eqb (cell i j) (cell p q) ≡ eqb i p && eqb j q
+cell-eqb : (i j p q : ℕ) → j < mostTeams → q < mostTeams → eqb (cell i j) (cell p q) ≡ eqb i p && eqb j q
 cell-eqb i j p q lj lq = go (eqb i p) (eqb j q) refl refl
   where
     go : (s t : Bool) → eqb i p ≡ s → eqb j q ≡ t → eqb (cell i j) (cell p q) ≡ s && t
@@ -28,7 +29,7 @@ cell-eqb i j p q lj lq = go (eqb i p) (eqb j q) refl refl
     go true false e f = ne-eqb (cell i j) (cell p q) (λ d. eqb-false j q f (omega (arith, eqb-true i p e)))
     go false t e f = ne-eqb (cell i j) (cell p q) (λ d. eqb-false i p e (omega arith))
 
-pub gains-meets : (n i j k : ℕ) (meets meets′ : List ℕ) → n ≤ 32 → j < n
+pub gains-meets : (n i j k : ℕ) (meets meets′ : List ℕ) → n ≤ mostTeams → j < n
     → Gains (cell i j) k meets meets′ → MeetsMore n i j k (xOf meets) (xOf meets′)
 gains-meets n i j k meets meets′ few lj more p q a lp lq =
     more (cell p q) a
@@ -52,72 +53,67 @@ module _ (n i j k : ℕ) (x x′ : X) (li : i < n) (lj : j < n) (more : MeetsMor
       ∙ sum-add (λ p. x p t a) (λ p. only (eqb i p && (eqb j t && eqb k a)) 1) n
       ∙ ap (λ (v : ℕ). sumTo (λ p. x p t a) n + v) (sum-point n i (eqb j t && eqb k a) li)
 
--- h, a, m are the tables without a game of i at home against j in slot k, h′, a′, m′ those with it.
-module _ (n i j k : ℕ) (h a m h′ a′ m′ : List ℕ) (few : n ≤ 32) (li : i < n) (lj : j < n)
-    (home-gains : Gains i k h h′) (away-gains : Gains j k a a′) (meets-gains : Gains (cell i j) k m m′) where
-  x-more : MeetsMore n i j k (xOf m) (xOf m′)
-  x-more = gains-meets n i j k m m′ few lj meets-gains
+-- team i has no game in slot k
+abbrev pub Free : Tables → ℕ → ℕ → Type 0
+Free t i k = bit (getD (t .home) i 0) k + bit (getD (t .away) i 0) k ≡ 0
+
+-- t are the tables without a game of i at home against j in slot k, t′ those with it.
+module _ (n i j k : ℕ) (t t′ : Tables) (few : n ≤ mostTeams) (li : i < n) (lj : j < n)
+    (home-gains : Gains i k (t .home) (t′ .home)) (away-gains : Gains j k (t .away) (t′ .away))
+    (meets-gains : Gains (cell i j) k (t .meets) (t′ .meets)) where
+  x-more : MeetsMore n i j k (xOf (t .meets)) (xOf (t′ .meets))
+  x-more = gains-meets n i j k (t .meets) (t′ .meets) few lj meets-gains
 
   -- rows grow as their sums do
-  home-row-more : (t b : ℕ) → t < n
-      → bit (getD h′ t 0) b + sumTo (λ q. xOf m t q b) n ≡ bit (getD h t 0) b + sumTo (λ q. xOf m′ t q b) n
-  home-row-more t b lt = omega (arith, home-gains t b, row-more n i j k (xOf m) (xOf m′) li lj x-more t b lt)
+  home-row-more : (p b : ℕ) → p < n
+      → bit (getD (t′ .home) p 0) b + sumTo (λ q. xOf (t .meets) p q b) n ≡ bit (getD (t .home) p 0) b + sumTo (λ q. xOf (t′ .meets) p q b) n
+  home-row-more p b lp = omega (arith, home-gains p b, row-more n i j k (xOf (t .meets)) (xOf (t′ .meets)) li lj x-more p b lp)
 
-  away-row-more : (t b : ℕ) → t < n
-      → bit (getD a′ t 0) b + sumTo (λ p. xOf m p t b) n ≡ bit (getD a t 0) b + sumTo (λ p. xOf m′ p t b) n
-  away-row-more t b lt = omega (arith, away-gains t b, column-more n i j k (xOf m) (xOf m′) li lj x-more t b lt)
+  away-row-more : (q b : ℕ) → q < n
+      → bit (getD (t′ .away) q 0) b + sumTo (λ p. xOf (t .meets) p q b) n ≡ bit (getD (t .away) q 0) b + sumTo (λ p. xOf (t′ .meets) p q b) n
+  away-row-more q b lq = omega (arith, away-gains q b, column-more n i j k (xOf (t .meets)) (xOf (t′ .meets)) li lj x-more q b lq)
 
-  tied-more : Sized h′ a′ m′
-      → (i ≡ j → ⊥)
-      → bit (getD h i 0) k + bit (getD a i 0) k ≡ 0
-      → bit (getD h j 0) k + bit (getD a j 0) k ≡ 0
-      → Tied n h a m
-      → Tied n h′ a′ m′
+  tied-more : Sized t′ → (i ≡ j → ⊥) → Free t i k → Free t j k → Tied n t → Tied n t′
   tied-more sized differ free-i free-j tied = record {
     sized = sized;
-    home-row = λ t b lt lb. omega (arith, home-row-more t b lt, tied .home-row t b lt lb);
-    away-row = λ t b lt lb. omega (arith, away-row-more t b lt, tied .away-row t b lt lb);
-    once = λ t b lt lb.
-        rw (home-gains t b, away-gains t b) (go t b (tied .once t b lt lb) (eqb i t) (eqb j t) (eqb k b) refl refl refl);
+    home-row = λ p b lp lb. omega (arith, home-row-more p b lp, tied .home-row p b lp lb);
+    away-row = λ q b lq lb. omega (arith, away-row-more q b lq, tied .away-row q b lq lb);
+    once = λ p b lp lb.
+        rw (home-gains p b, away-gains p b) (go p b (tied .once p b lp lb) (eqb i p) (eqb j p) (eqb k b) refl refl refl);
   }
     where
-      go : (t b : ℕ)
-          → bit (getD h t 0) b + bit (getD a t 0) b ≤ 1
-          → (p q r : Bool)
-          → eqb i t ≡ p
-          → eqb j t ≡ q
-          → eqb k b ≡ r
-          → (bit (getD h t 0) b + only (p && r) 1) + (bit (getD a t 0) b + only (q && r) 1) ≤ 1
-      go t b old true true r e f d = absurd (differ (eqb-true i t e ∙ sym (eqb-true j t f)))
-      go t b old true false true e f d = rw (← eqb-true i t e, ← eqb-true k b d) (omega arith)
-      go t b old false true true e f d = rw (← eqb-true j t f, ← eqb-true k b d) (omega arith)
-      go t b old true false false e f d = omega arith
-      go t b old false true false e f d = omega arith
-      go t b old false false r e f d = omega arith
+      go : (p b : ℕ)
+          → bit (getD (t .home) p 0) b + bit (getD (t .away) p 0) b ≤ 1
+          → (q r s : Bool)
+          → eqb i p ≡ q
+          → eqb j p ≡ r
+          → eqb k b ≡ s
+          → (bit (getD (t .home) p 0) b + only (q && s) 1) + (bit (getD (t .away) p 0) b + only (r && s) 1) ≤ 1
+      go p b old true true s e f d = absurd (differ (eqb-true i p e ∙ sym (eqb-true j p f)))
+      go p b old true false true e f d = rw (← eqb-true i p e, ← eqb-true k b d) (omega arith)
+      go p b old false true true e f d = rw (← eqb-true j p f, ← eqb-true k b d) (omega arith)
+      go p b old true false false e f d = omega arith
+      go p b old false true false e f d = omega arith
+      go p b old false false s e f d = omega arith
 
-  tied-less : Sized h a m → Tied n h′ a′ m′ → Tied n h a m
+  tied-less : Sized t → Tied n t′ → Tied n t
   tied-less sized tied = record {
     sized = sized;
-    home-row = λ t b lt lb. omega (arith, home-row-more t b lt, tied .home-row t b lt lb);
-    away-row = λ t b lt lb. omega (arith, away-row-more t b lt, tied .away-row t b lt lb);
-    once = λ t b lt lb. omega (arith, home-gains t b, away-gains t b, tied .once t b lt lb);
+    home-row = λ p b lp lb. omega (arith, home-row-more p b lp, tied .home-row p b lp lb);
+    away-row = λ q b lq lb. omega (arith, away-row-more q b lq, tied .away-row q b lq lb);
+    once = λ p b lp lb. omega (arith, home-gains p b, away-gains p b, tied .once p b lp lb);
   }
 
   -- the same with the sheets that the tables are of
   module _ (homes aways sheet sheet′ : List ℕ)
       (more : MeetsMore n i j k (meetings homes aways sheet) (meetings homes aways sheet′)) where
-    pub shows-more : Sized h′ a′ m′
-        → (i ≡ j → ⊥)
-        → bit (getD h i 0) k + bit (getD a i 0) k ≡ 0
-        → bit (getD h j 0) k + bit (getD a j 0) k ≡ 0
-        → Shows n h a m homes aways sheet
-        → Shows n h′ a′ m′ homes aways sheet′
+    pub shows-more : Sized t′ → (i ≡ j → ⊥) → Free t i k → Free t j k → Shows n t homes aways sheet → Shows n t′ homes aways sheet′
     shows-more sized differ free-i free-j shows = record {
       tied = tied-more sized differ free-i free-j (shows .tied);
       x = λ p q b lp lq lb. omega (arith, x-more p q b lp lq, shows .x p q b lp lq lb, more p q b lp lq);
     }
 
-    pub shows-less : Sized h a m → Shows n h′ a′ m′ homes aways sheet′ → Shows n h a m homes aways sheet
+    pub shows-less : Sized t → Shows n t′ homes aways sheet′ → Shows n t homes aways sheet
     shows-less sized shows = record {
       tied = tied-less sized (shows .tied);
       x = λ p q b lp lq lb. omega (arith, x-more p q b lp lq, shows .x p q b lp lq lb, more p q b lp lq);

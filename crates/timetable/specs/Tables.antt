@@ -8,39 +8,49 @@ use lib.Dec.{eqb, ltb}
 use lib.ListN.{length, getD, set, replicate}
 use Rattle.robinx.specs.Sums.{sumTo, anyTo, only}
 use Rattle.robinx.specs.Groups.{bit, has}
+use Rattle.robinx.specs.Season.{mostTeams, mostSlots, mostPlaces}
 use Rattle.robinx.specs.Timetable.{X, meetings, clash}
 use Rattle.masks.specs.Masks.{joined, without}
 use Rattle.timetable.specs.declared.Built.{Built}
 
+-- `home` and `away` have a mask of slots for each team, `meets` one for each two teams, the first at home.
+pub record Tables : Type 0 where
+  pub home : List ℕ
+  pub away : List ℕ
+  pub meets : List ℕ
+
+abbrev pub tables : List ℕ → List ℕ → List ℕ → Tables
+tables home away meets = record { home = home; away = away; meets = meets }
+
 -- where the mask of i hosting j stands
 abbrev pub cell : ℕ → ℕ → ℕ
-cell i j = i * 32 + j
+cell i j = i * mostTeams + j
 
 -- the timetable that the table of meetings holds
 abbrev pub xOf : List ℕ → X
 xOf meets i j k = bit (getD meets (cell i j) 0) k
 
 -- A word for each team, and for each two of them.
-pub record Sized (home away meets : List ℕ) : Type 0 where
-  pub home-length : length home ≡ 32
-  pub away-length : length away ≡ 32
-  pub meets-length : length meets ≡ 1024
+pub record Sized (t : Tables) : Type 0 where
+  pub home-length : length (t .home) ≡ mostTeams
+  pub away-length : length (t .away) ≡ mostTeams
+  pub meets-length : length (t .meets) ≡ mostPlaces
 
 -- The rows say what `meets` says, and no team has two games in a slot.
-pub record Tied (n : ℕ) (home away meets : List ℕ) : Type 0 where
-  pub sized : Sized home away meets
-  pub home-row : (t k : ℕ) → t < n → k < 64 → bit (getD home t 0) k ≡ sumTo (λ j. xOf meets t j k) n
-  pub away-row : (t k : ℕ) → t < n → k < 64 → bit (getD away t 0) k ≡ sumTo (λ i. xOf meets i t k) n
-  pub once : (t k : ℕ) → t < n → k < 64 → bit (getD home t 0) k + bit (getD away t 0) k ≤ 1
+pub record Tied (n : ℕ) (t : Tables) : Type 0 where
+  pub sized : Sized t
+  pub home-row : (i k : ℕ) → i < n → k < mostSlots → bit (getD (t .home) i 0) k ≡ sumTo (λ j. xOf (t .meets) i j k) n
+  pub away-row : (j k : ℕ) → j < n → k < mostSlots → bit (getD (t .away) j 0) k ≡ sumTo (λ i. xOf (t .meets) i j k) n
+  pub once : (i k : ℕ) → i < n → k < mostSlots → bit (getD (t .home) i 0) k + bit (getD (t .away) i 0) k ≤ 1
 
 -- The tables are those of the sheet.
-pub record Shows (n : ℕ) (home away meets homes aways sheet : List ℕ) : Type 0 where
-  pub tied : Tied n home away meets
-  pub x : (i j k : ℕ) → i < n → j < n → k < 64 → xOf meets i j k ≡ meetings homes aways sheet i j k
+pub record Shows (n : ℕ) (t : Tables) (homes aways sheet : List ℕ) : Type 0 where
+  pub tied : Tied n t
+  pub x : (i j k : ℕ) → i < n → j < n → k < mostSlots → xOf (t .meets) i j k ≡ meetings homes aways sheet i j k
 
 -- What a season's games and its sheet are held to before a table is made of them.
 pub record Teams (n : ℕ) (homes aways : List ℕ) : Type 0 where
-  pub few : n ≤ 32
+  pub few : n ≤ mostTeams
   pub aways-length : length aways ≡ length homes
   pub home-below : (g : ℕ) → g < length homes → getD homes g 0 < n
   pub away-below : (g : ℕ) → g < length homes → getD aways g 0 < n
@@ -49,22 +59,22 @@ pub record Teams (n : ℕ) (homes aways : List ℕ) : Type 0 where
 pub record InRange (n : ℕ) (homes aways sheet : List ℕ) : Type 0 where
   pub teams : Teams n homes aways
   pub sheet-length : length sheet ≡ length homes
-  pub slot-low : (g : ℕ) → g < length homes → getD sheet g 0 ≤ 64
+  pub slot-low : (g : ℕ) → g < length homes → getD sheet g 0 ≤ mostSlots
 
 -- The answer `ok` is right, and with it the tables: no team has two games in a slot, or the tables are no matter.
-pub record Fits (n : ℕ) (ok : Bool) (home away meets homes aways sheet : List ℕ) : Type 0 where
+pub record Fits (n : ℕ) (ok : Bool) (t : Tables) (homes aways sheet : List ℕ) : Type 0 where
   pub no-clash : ok ≡ not (clash homes aways sheet)
-  pub shows : ok ≡ true → Shows n home away meets homes aways sheet
+  pub shows : ok ≡ true → Shows n t homes aways sheet
 
 -- no game is placed
-pub record Empty (home away meets : List ℕ) : Type 0 where
-  pub home-is : home ≡ replicate 32 0
-  pub away-is : away ≡ replicate 32 0
-  pub meets-is : meets ≡ replicate 1024 0
+pub record Empty (t : Tables) : Type 0 where
+  pub home-is : t .home ≡ replicate mostTeams 0
+  pub away-is : t .away ≡ replicate mostTeams 0
+  pub meets-is : t .meets ≡ replicate mostPlaces 0
 
--- t has a game in slot k
+-- team i has a game in slot k
 abbrev pub busy : List ℕ → List ℕ → ℕ → ℕ → Bool
-busy home away t k = has (getD home t 0) k || has (getD away t 0) k
+busy home away i k = has (getD home i 0) k || has (getD away i 0) k
 
 -- one of the two teams has
 abbrev pub taken : List ℕ → List ℕ → ℕ → ℕ → ℕ → Bool
@@ -80,9 +90,9 @@ above p sheet = anyTo (λ g. ltb p (getD sheet g 0)) (length sheet)
 
 -- What building the tables of a sheet answers and leaves. The sheet fits when no byte is above p and no team has two games in a slot; then
 -- the tables are its own, and the games that have no slot are counted.
-pub record Builds (p : ℕ) (homes aways sheet : List ℕ) (r : Built) (home away meets : List ℕ) : Type 0 where
+pub record Builds (p : ℕ) (homes aways sheet : List ℕ) (r : Built) (t : Tables) : Type 0 where
   pub answer : r .fits ≡ not (above p sheet || clash homes aways sheet)
-  pub shows : r .fits ≡ true → Shows 32 home away meets homes aways sheet
+  pub shows : r .fits ≡ true → Shows mostTeams t homes aways sheet
   pub count : r .fits ≡ true → r .unplaced ≡ unplaced sheet (length homes)
 
 -- a table with slot k in word q, and without it
@@ -92,14 +102,14 @@ joinedAt l q k = set l q (joined (getD l q 0) k)
 abbrev pub withoutAt : List ℕ → ℕ → ℕ → List ℕ
 withoutAt l q k = set l q (without (getD l q 0) k)
 
--- the same by a byte of the sheet, of which 0 is no slot
-abbrev pub putIn : List ℕ → ℕ → ℕ → List ℕ
-putIn l q zero = l
-putIn l q (suc k) = joinedAt l q k
+-- the tables with game (i, j) in the slot of byte b, of which 0 is no slot, and without it
+abbrev pub putInto : ℕ → ℕ → ℕ → Tables → Tables
+putInto i j zero t = t
+putInto i j (suc k) t = tables (joinedAt (t .home) i k) (joinedAt (t .away) j k) (joinedAt (t .meets) (cell i j) k)
 
-abbrev pub takenOut : List ℕ → ℕ → ℕ → List ℕ
-takenOut l q zero = l
-takenOut l q (suc k) = withoutAt l q k
+abbrev pub takenOutOf : ℕ → ℕ → ℕ → Tables → Tables
+takenOutOf i j zero t = t
+takenOutOf i j (suc k) t = tables (withoutAt (t .home) i k) (withoutAt (t .away) j k) (withoutAt (t .meets) (cell i j) k)
 
 -- the slot of byte b is free for i and j
 abbrev pub freeAt : List ℕ → List ℕ → ℕ → ℕ → ℕ → Bool
@@ -107,14 +117,6 @@ freeAt home away i j zero = true
 freeAt home away i j (suc k) = not (taken home away i j k)
 
 -- What a try to put game (i, j) into the slot of byte b answers and leaves: all three tables with it, or none.
-pub record Tried (r : Bool) (i j b : ℕ) (home away meets home′ away′ meets′ : List ℕ) : Type 0 where
-  pub answer : r ≡ freeAt home away i j b
-  pub home-is : home′ ≡ cond r (putIn home i b) home
-  pub away-is : away′ ≡ cond r (putIn away j b) away
-  pub meets-is : meets′ ≡ cond r (putIn meets (cell i j) b) meets
-
--- The tables after game (i, j) was taken out of the slot of byte b.
-pub record Lifted (i j b : ℕ) (home away meets home′ away′ meets′ : List ℕ) : Type 0 where
-  pub home-is : home′ ≡ takenOut home i b
-  pub away-is : away′ ≡ takenOut away j b
-  pub meets-is : meets′ ≡ takenOut meets (cell i j) b
+pub record Tried (r : Bool) (i j b : ℕ) (t t′ : Tables) : Type 0 where
+  pub answer : r ≡ freeAt (t .home) (t .away) i j b
+  pub after : t′ ≡ cond r (putInto i j b t) t

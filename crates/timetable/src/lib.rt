@@ -7,7 +7,9 @@ ghost use Prim.Native.Nat.{ℕ, suc, _+_, _<_, _≤_};
 ghost use lib.Dec.{eqb};
 ghost use lib.ListN.{length, set, getD};
 ghost use Rattle.robinx.specs.Sums.{only};
-ghost use Rattle.timetable.specs.Tables.{cell, busy, joinedAt, withoutAt, Teams, InRange, Fits, Empty, Tried, Lifted, Builds};
+ghost use Rattle.robinx.specs.Season.{mostTeams, mostSlots};
+ghost use Rattle.timetable.specs.Tables.{tables, cell, busy, joinedAt, withoutAt, takenOutOf, Teams, InRange, Fits, Empty, Tried, Builds};
+use robinx::Season;
 
 fn either(a: bool, b: bool) -> bool
     ensures { λ r. ⌜ r ≡ a || b ⌝ }
@@ -22,57 +24,57 @@ fn both(a: bool, b: bool) -> bool
 }
 
 // Team t has a game in slot k.
-fn busy(home: &[u64; 32], away: &[u64; 32], t: usize, k: u64) -> bool
-    requires { ⌜ (t < 32) × (k < 64) ⌝ }
+fn busy(home: &[u64; Season::TEAMS], away: &[u64; Season::TEAMS], t: usize, k: u64) -> bool
+    requires { ⌜ (t < mostTeams) × (k < mostSlots) ⌝ }
     ensures { λ r. ⌜ r ≡ busy (now (home .entry)) (now (away .entry)) t k ⌝ }
 {
     either(masks::is_in(home[t], k), masks::is_in(away[t], k))
 }
 
 // Slot k of a team, set and cleared.
-fn join_row(row: &mut [u64; 32], t: usize, k: u64)
-    requires { ⌜ (t < 32) × (k < 64) ⌝ }
+fn join_row(row: &mut [u64; Season::TEAMS], t: usize, k: u64)
+    requires { ⌜ (t < mostTeams) × (k < mostSlots) ⌝ }
     ensures { λ _. ⌜ now (row .exit) ≡ joinedAt (now (row .entry)) t k ⌝ }
 {
     row[t] = masks::joined(row[t], k);
 }
 
-fn clear_row(row: &mut [u64; 32], t: usize, k: u64)
-    requires { ⌜ (t < 32) × (k < 64) ⌝ }
+fn clear_row(row: &mut [u64; Season::TEAMS], t: usize, k: u64)
+    requires { ⌜ (t < mostTeams) × (k < mostSlots) ⌝ }
     ensures { λ _. ⌜ now (row .exit) ≡ withoutAt (now (row .entry)) t k ⌝ }
 {
     row[t] = masks::without(row[t], k);
 }
 
 // .. of i hosting j.
-fn join_cell(meets: &mut [u64; 1024], i: usize, j: usize, k: u64)
-    requires { ⌜ (i < 32) × (j < 32) × (k < 64) ⌝ }
+fn join_cell(meets: &mut [u64; Season::PLACES], i: usize, j: usize, k: u64)
+    requires { ⌜ (i < mostTeams) × (j < mostTeams) × (k < mostSlots) ⌝ }
     ensures { λ _. ⌜ now (meets .exit) ≡ joinedAt (now (meets .entry)) (cell i j) k ⌝ }
 {
-    let q = i * 32 + j;
+    let q = i * Season::TEAMS + j;
     meets[q] = masks::joined(meets[q], k);
 }
 
-fn clear_cell(meets: &mut [u64; 1024], i: usize, j: usize, k: u64)
-    requires { ⌜ (i < 32) × (j < 32) × (k < 64) ⌝ }
+fn clear_cell(meets: &mut [u64; Season::PLACES], i: usize, j: usize, k: u64)
+    requires { ⌜ (i < mostTeams) × (j < mostTeams) × (k < mostSlots) ⌝ }
     ensures { λ _. ⌜ now (meets .exit) ≡ withoutAt (now (meets .entry)) (cell i j) k ⌝ }
 {
-    let q = i * 32 + j;
+    let q = i * Season::TEAMS + j;
     meets[q] = masks::without(meets[q], k);
 }
 
 // Puts i at home against j into slot k, or says that one of them is busy there and changes nothing.
 pub fn place(
-    home: &mut [u64; 32],
-    away: &mut [u64; 32],
-    meets: &mut [u64; 1024],
+    home: &mut [u64; Season::TEAMS],
+    away: &mut [u64; Season::TEAMS],
+    meets: &mut [u64; Season::PLACES],
     i: usize,
     j: usize,
     k: u64,
 ) -> bool
-    requires { ⌜ (i < 32) × (j < 32) × (k < 64) ⌝ }
-    ensures { λ r. ⌜ Tried r i j (suc k) (now (home .entry)) (now (away .entry)) (now (meets .entry))
-        (now (home .exit)) (now (away .exit)) (now (meets .exit)) ⌝ }
+    requires { ⌜ (i < mostTeams) × (j < mostTeams) × (k < mostSlots) ⌝ }
+    ensures { λ r. ⌜ Tried r i j (suc k) (tables (now (home .entry)) (now (away .entry)) (now (meets .entry)))
+        (tables (now (home .exit)) (now (away .exit)) (now (meets .exit))) ⌝ }
 {
     if either(busy(&*home, &*away, i, k), busy(&*home, &*away, j, k)) {
         return false;
@@ -85,16 +87,16 @@ pub fn place(
 
 // Takes i at home against j out of slot k.
 pub fn lift(
-    home: &mut [u64; 32],
-    away: &mut [u64; 32],
-    meets: &mut [u64; 1024],
+    home: &mut [u64; Season::TEAMS],
+    away: &mut [u64; Season::TEAMS],
+    meets: &mut [u64; Season::PLACES],
     i: usize,
     j: usize,
     k: u64,
 )
-    requires { ⌜ (i < 32) × (j < 32) × (k < 64) ⌝ }
-    ensures { λ _. ⌜ Lifted i j (suc k) (now (home .entry)) (now (away .entry)) (now (meets .entry))
-        (now (home .exit)) (now (away .exit)) (now (meets .exit)) ⌝ }
+    requires { ⌜ (i < mostTeams) × (j < mostTeams) × (k < mostSlots) ⌝ }
+    ensures { λ _. ⌜ tables (now (home .exit)) (now (away .exit)) (now (meets .exit))
+        ≡ takenOutOf i j (suc k) (tables (now (home .entry)) (now (away .entry)) (now (meets .entry))) ⌝ }
 {
     clear_row(home, i, k);
     clear_row(away, j, k);
@@ -105,16 +107,16 @@ pub fn lift(
 fn put(
     homes: &[u8],
     aways: &[u8],
-    home: &mut [u64; 32],
-    away: &mut [u64; 32],
-    meets: &mut [u64; 1024],
+    home: &mut [u64; Season::TEAMS],
+    away: &mut [u64; Season::TEAMS],
+    meets: &mut [u64; Season::PLACES],
     g: usize,
     b: u8,
 ) -> bool
-    requires { ⌜ Teams 32 (now homes) (now aways) × (g < length (now homes)) × (b ≤ 64) ⌝ }
+    requires { ⌜ Teams mostTeams (now homes) (now aways) × (g < length (now homes)) × (b ≤ mostSlots) ⌝ }
     ensures { λ r. ⌜ Tried r (getD (now (homes .entry)) g 0) (getD (now (aways .entry)) g 0) b
-        (now (home .entry)) (now (away .entry)) (now (meets .entry))
-        (now (home .exit)) (now (away .exit)) (now (meets .exit)) ⌝ }
+        (tables (now (home .entry)) (now (away .entry)) (now (meets .entry)))
+        (tables (now (home .exit)) (now (away .exit)) (now (meets .exit))) ⌝ }
 {
     if b == 0 {
         return true;
@@ -132,16 +134,16 @@ fn put(
 fn take_out(
     homes: &[u8],
     aways: &[u8],
-    home: &mut [u64; 32],
-    away: &mut [u64; 32],
-    meets: &mut [u64; 1024],
+    home: &mut [u64; Season::TEAMS],
+    away: &mut [u64; Season::TEAMS],
+    meets: &mut [u64; Season::PLACES],
     g: usize,
     b: u8,
 )
-    requires { ⌜ Teams 32 (now homes) (now aways) × (g < length (now homes)) × (b ≤ 64) ⌝ }
-    ensures { λ _. ⌜ Lifted (getD (now (homes .entry)) g 0) (getD (now (aways .entry)) g 0) b
-        (now (home .entry)) (now (away .entry)) (now (meets .entry))
-        (now (home .exit)) (now (away .exit)) (now (meets .exit)) ⌝ }
+    requires { ⌜ Teams mostTeams (now homes) (now aways) × (g < length (now homes)) × (b ≤ mostSlots) ⌝ }
+    ensures { λ _. ⌜ tables (now (home .exit)) (now (away .exit)) (now (meets .exit))
+        ≡ takenOutOf (getD (now (homes .entry)) g 0) (getD (now (aways .entry)) g 0) b
+        (tables (now (home .entry)) (now (away .entry)) (now (meets .entry))) ⌝ }
 {
     if b == 0 {
         return;
@@ -184,14 +186,14 @@ pub fn build(
     aways: &[u8],
     sheet: &[u8],
     p: usize,
-    home: &mut [u64; 32],
-    away: &mut [u64; 32],
-    meets: &mut [u64; 1024],
+    home: &mut [u64; Season::TEAMS],
+    away: &mut [u64; Season::TEAMS],
+    meets: &mut [u64; Season::PLACES],
 ) -> Built
-    requires { ⌜ Teams 32 (now homes) (now aways) × (length (now sheet) ≡ length (now homes)) × (p ≤ 64)
-        × Empty (now home) (now away) (now meets) ⌝ }
+    requires { ⌜ Teams mostTeams (now homes) (now aways) × (length (now sheet) ≡ length (now homes)) × (p ≤ mostSlots)
+        × Empty (tables (now home) (now away) (now meets)) ⌝ }
     ensures { λ r. ⌜ Builds p (now (homes .entry)) (now (aways .entry)) (now (sheet .entry)) r
-        (now (home .exit)) (now (away .exit)) (now (meets .exit)) ⌝ }
+        (tables (now (home .exit)) (now (away .exit)) (now (meets .exit))) ⌝ }
 {
     let mut unplaced: usize = 0;
     let mut g = 0;
@@ -217,16 +219,16 @@ pub fn reslot(
     homes: &[u8],
     aways: &[u8],
     sheet: &[u8],
-    home: &mut [u64; 32],
-    away: &mut [u64; 32],
-    meets: &mut [u64; 1024],
+    home: &mut [u64; Season::TEAMS],
+    away: &mut [u64; Season::TEAMS],
+    meets: &mut [u64; Season::PLACES],
     g: usize,
     b: u8,
 ) -> bool
-    requires { ⌜ InRange 32 (now homes) (now aways) (now sheet)
-        × Fits 32 true (now home) (now away) (now meets) (now homes) (now aways) (now sheet)
-        × (g < length (now homes)) × (b ≤ 64) ⌝ }
-    ensures { λ r. ⌜ Fits 32 r (now (home .exit)) (now (away .exit)) (now (meets .exit))
+    requires { ⌜ InRange mostTeams (now homes) (now aways) (now sheet)
+        × Fits mostTeams true (tables (now home) (now away) (now meets)) (now homes) (now aways) (now sheet)
+        × (g < length (now homes)) × (b ≤ mostSlots) ⌝ }
+    ensures { λ r. ⌜ Fits mostTeams r (tables (now (home .exit)) (now (away .exit)) (now (meets .exit)))
         (now (homes .entry)) (now (aways .entry)) (set (now (sheet .entry)) g b) ⌝ }
 {
     take_out(
@@ -246,16 +248,16 @@ pub fn swap(
     homes: &[u8],
     aways: &[u8],
     sheet: &[u8],
-    home: &mut [u64; 32],
-    away: &mut [u64; 32],
-    meets: &mut [u64; 1024],
+    home: &mut [u64; Season::TEAMS],
+    away: &mut [u64; Season::TEAMS],
+    meets: &mut [u64; Season::PLACES],
     g: usize,
     h: usize,
 ) -> bool
-    requires { ⌜ InRange 32 (now homes) (now aways) (now sheet)
-        × Fits 32 true (now home) (now away) (now meets) (now homes) (now aways) (now sheet)
+    requires { ⌜ InRange mostTeams (now homes) (now aways) (now sheet)
+        × Fits mostTeams true (tables (now home) (now away) (now meets)) (now homes) (now aways) (now sheet)
         × (g < length (now homes)) × (h < length (now homes)) × (g ≡ h → ⊥) ⌝ }
-    ensures { λ r. ⌜ Fits 32 r (now (home .exit)) (now (away .exit)) (now (meets .exit)) (now (homes .entry)) (now (aways .entry))
+    ensures { λ r. ⌜ Fits mostTeams r (tables (now (home .exit)) (now (away .exit)) (now (meets .exit))) (now (homes .entry)) (now (aways .entry))
         (set (set (now (sheet .entry)) g (getD (now (sheet .entry)) h 0)) h (getD (now (sheet .entry)) g 0)) ⌝ }
 {
     let a = sheet[g];

@@ -1,14 +1,9 @@
 -- Sentences 1 to 8, then the call. Assumes nothing.
-use denote.Ref.{now}
 use borrow.Author.Needs.{needs}
-use Rattle.checker.proofs.Exported.{ready, exchange-refused, exchange-passed}
+use Rattle.robinx.specs.Calls.{Call}
+use Rattle.checker.proofs.Exported.{call-refused, call-passed}
 use Rattle.checker.proofs.season_exchange.Statement.{statement}
 use Rattle.checker.proofs.season_exchange.Tie as tie
-use Rattle.checker.proofs.season_exchange.Reads as reads
-use Rattle.checker.proofs.season_exchange.Lts as lts
-use Rattle.checker.proofs.admission.admit.Reads as admit-reads
-use Rattle.checker.proofs.calls.declined.Reads as declined-reads
-use Rattle.checker.proofs.calls.exchange.Reads as exchange-reads
 
 admit-requires : tie.Need-admit-requires
 admit-requires c κs = search needs
@@ -19,29 +14,37 @@ declined-requires c κs = search needs
 same-length : tie.Need-same-length
 same-length c = search needs
 
-returns : tie.Need-returns
-returns c =
-    let a = c .before .before .before .before .before .before .before .before .before .before .before .before .args in
-    exchange-refused (now (a .ledger)) (now (a .tally)) (c .before .before .before .admit .ensures) (a .game) (a .other) (c .before .if1 .taken) (c .declined .ensures)
-
-exchange-requires : tie.Need-exchange-requires
-exchange-requires c κs =
-    let a = c .before .before .before .before .before .before .before .before .before .before .before .before .before .before .before .before .before .args in
-    ready (now (a .ledger)) (now (a .tally)) (c .before .before .before .before .before .before .before .before .admit .ensures) (c .before .before .before .before .before .before .if1 .left)
-
 same-length-2 : tie.Need-same-length-2
 same-length-2 c = search needs
 
 same-length-3 : tie.Need-same-length-3
 same-length-3 c = search needs
 
+returns : tie.Need-returns
+returns c =
+    let w = c .before .before .before in
+    let a = w .before .before .before .before .before .before .before .before .before .before .before .args in
+    call-refused (w .admit .ensures) (Call.exchange (a .game) (a .other)) (c .before .if1 .taken) (c .declined .ensures)
+
+exchange-requires : tie.Need-exchange-requires
+exchange-requires c κs = let i = c .before .before .before .before .before .before in i .before .before .admit .ensures .ready (i .if1 .left)
+
 same-length-4 : tie.Need-same-length-4
 same-length-4 c = search needs
 
+same-length-5 : tie.Need-same-length-5
+same-length-5 c = search needs
+
+same-length-6 : tie.Need-same-length-6
+same-length-6 c = search needs
+
 returns-2 : tie.Need-returns-2
 returns-2 c =
-    let a = c .before .before .before .before .before .before .before .before .before .before .before .before .before .before .before .before .before .before .before .before .before .before .before .before .args in
-    exchange-passed (now (a .ledger)) (now (a .tally)) (c .before .before .before .before .before .before .before .before .before .before .before .before .before .before .before .admit .ensures) (a .game) (a .other) (c .before .before .before .before .before .before .before .before .before .before .before .before .before .if1 .left) (c .before .before .before .before .before .before .exchange .ensures)
+    let k = c .before .before .before .before .before .before in
+    let i = k .before .before .before .before .before .before .before in
+    let w = i .before .before in
+    let a = w .before .before .before .before .before .before .before .before .before .before .before .args in
+    call-passed (w .admit .ensures) (Call.exchange (a .game) (a .other)) (i .if1 .left) (k .exchange .ensures)
 
 pub season-exchange-spec : {M : Type 1} → statement M
 season-exchange-spec =
@@ -50,9 +53,11 @@ season-exchange-spec =
     admit-requires
     declined-requires
     same-length
-    returns
-    exchange-requires
     same-length-2
     same-length-3
+    returns
+    exchange-requires
     same-length-4
+    same-length-5
+    same-length-6
     returns-2)

@@ -1,8 +1,7 @@
 -- `fill` meets its contract. Assumes nothing.
 use native.Mathlib.Omega.{arith}
-use Rattle.robinx.specs.Kinds.{Kind, kindOf}
+use Rattle.robinx.specs.Kinds.{kindOf}
 use Rattle.robinx.specs.Deviations.{deviationsOf}
-use Rattle.figures.proofs.Ready.{places-of}
 use Rattle.figures.proofs.Known.{of-number, no-other, GA1-alone, SE1-alone}
 use borrow.Author.Needs.{needs}
 use Rattle.figures.proofs.fill.Statement.{statement}
@@ -21,10 +20,9 @@ fill-fairness-requires : tie.Need-fill-fairness-requires
 fill-fairness-requires c κs = search needs
 
 fill-separation-requires : tie.Need-fill-separation-requires
-unfolding kindOf
 fill-separation-requires c κs =
-    let r = c .before .before .before .before .before .before .before .before .pre in
-    (r .teams, r .slots, places-of r {k = Kind.SE1} (rw (SE1-alone r (search needs) (search needs))))
+    let first = c .before .before .before .before .before .before in
+    let r = first .before .before .pre in (r, SE1-alone r (search needs) (search needs))
 
 returns : tie.Need-returns
 returns c = absurd (no-other (c .before .before .pre) (omega arith))
@@ -41,7 +39,8 @@ same-length-2 c = search needs
 returns-3 : tie.Need-returns-3
 unfolding deviationsOf kindOf
 returns-3 c =
-    let r = c .before .before .before .before .before .before .before .before .pre in
+    let first = c .before .before .before .before .before .before in
+    let r = first .before .before .pre in
     of-number r 21 (GA1-alone r (search needs) (search needs)) (c .before .before .fill-ga1 .ensures)
 
 same-length-3 : tie.Need-same-length-3
@@ -62,8 +61,10 @@ same-length-5 c = search needs
 returns-6 : tie.Need-returns-6
 unfolding deviationsOf kindOf
 returns-6 c =
-    let r = c .before .before .before .before .before .before .before .before .before .before .before .pre in
-    of-number r 51 (SE1-alone r (search needs) (search needs)) (c .before .before .fill-separation .ensures)
+    let call = c .before .before in
+    let first = call .before .before .before .before .before .before .before in
+    let r = first .before .before .pre in
+    of-number r 51 (SE1-alone r (search needs) (search needs)) (call .fill-separation .ensures)
 
 returns-7 : tie.Need-returns-7
 returns-7 c = absurd (no-other (c .before .before .before .before .before .before .before .pre) (omega arith))

@@ -1,26 +1,29 @@
 -- `fill_capacity` meets its contract. Assumes nothing.
+use native.Mathlib.Omega.{arith}
 use Rattle.robinx.specs.Kinds.{kindOf}
 use Rattle.robinx.specs.Deviations.{deviationsOf}
-use Rattle.figures.proofs.Known.{of-number, CA1-to-CA3}
+use Rattle.figures.proofs.Known.{of-number, no-other}
 use borrow.Author.Needs.{needs}
 use Rattle.figures.proofs.fill_capacity.Statement.{statement}
 use Rattle.figures.proofs.fill_capacity.Tie as tie
 
+fill-counts-requires : tie.Need-fill-counts-requires
+fill-counts-requires c κs = search needs
+
+fill-counts-requires-2 : tie.Need-fill-counts-requires-2
+fill-counts-requires-2 c κs = search needs
+
+fill-runs-requires : tie.Need-fill-runs-requires
+fill-runs-requires c κs = search needs
+
 fill-ca4-requires : tie.Need-fill-ca4-requires
 fill-ca4-requires c κs = search needs
-
-fill-counts-requires : tie.Need-fill-counts-requires
-fill-counts-requires c κs =
-    let h = c .before .before .before .before .pre in
-    let k = CA1-to-CA3 (h .0) (h .1) (h .2) (c .before .if1 .left) in
-    (h .0, k .0, k .1)
 
 same-length : tie.Need-same-length
 same-length c = search needs
 
 returns : tie.Need-returns
-unfolding deviationsOf kindOf
-returns c = of-number (c .before .before .before .before .before .before .before .pre .0) 14 (c .before .before .before .before .if1 .taken) (c .before .before .fill-ca4 .ensures)
+returns c = search needs
 
 same-length-2 : tie.Need-same-length-2
 same-length-2 c = search needs
@@ -28,7 +31,36 @@ same-length-2 c = search needs
 returns-2 : tie.Need-returns-2
 returns-2 c = search needs
 
+same-length-3 : tie.Need-same-length-3
+same-length-3 c = search needs
+
+returns-3 : tie.Need-returns-3
+returns-3 c = search needs
+
+same-length-4 : tie.Need-same-length-4
+same-length-4 c = search needs
+
+returns-4 : tie.Need-returns-4
+unfolding deviationsOf kindOf
+returns-4 c = of-number (c .before .before .before .before .before .before .pre .0) 14 (search needs) (c .before .before .fill-ca4 .ensures)
+
+returns-5 : tie.Need-returns-5
+returns-5 c = absurd (no-other (c .before .before .pre .0) (omega arith))
+
 pub fill-capacity-spec : {M : Type 1} → statement M
 fill-capacity-spec =
     tie.close
-    (tie.spec fill-ca4-requires fill-counts-requires same-length returns same-length-2 returns-2)
+    (tie.spec
+    fill-counts-requires
+    fill-counts-requires-2
+    fill-runs-requires
+    fill-ca4-requires
+    same-length
+    returns
+    same-length-2
+    returns-2
+    same-length-3
+    returns-3
+    same-length-4
+    returns-4
+    returns-5)

@@ -7,7 +7,8 @@ use lib.Pow.{shr-le}
 use borrow.Author.Needs.{needs}
 use lib.Count.{trailingZeros}
 use Rattle.robinx.specs.Sums.{sumTo}
-use Rattle.masks.proofs.Walk.{turn, first-turn, walked, Summed, summed-first, summed-next, summed-all}
+use Rattle.robinx.proofs.SetBits.{turn, first-turn}
+use Rattle.masks.proofs.Walk.{walked, Summed, summed-first, summed-next, summed-all}
 use Rattle.masks.proofs.closeness.Statement.{statement}
 use Rattle.masks.proofs.closeness.Tie as tie
 

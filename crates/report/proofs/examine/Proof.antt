@@ -12,13 +12,18 @@ examine-requires c κs = search needs
 returns : tie.Need-returns
 returns c = one-of-five (now (c .before .before .before .before .args .season)) (c .before .before .examine .ensures) (c .if1 .taken)
 
+refused-by-requires : tie.Need-refused-by-requires
+refused-by-requires c κs = search needs
+
 returns-2 : tie.Need-returns-2
 returns-2 c =
-    too-many (now (c .before .before .before .before .before .before .args .season)) (c .before .before .before .before .examine .ensures) (c .before .before .if1 .left) (c .if2 .taken)
+    let b = c .before .before .before .before .before in
+    too-many (now (b .before .before .args .season)) (b .examine .ensures) (c .before .before .before .if1 .left) (omega (arith, c .before .if2 .taken)) (c .refused-by .ensures)
 
 returns-3 : tie.Need-returns-3
 returns-3 c =
-    not-too-many (now (c .before .before .before .before .before .before .args .season)) (c .before .before .before .before .examine .ensures) (c .before .before .if1 .left) (c .if2 .left)
+    let b = c .before .before .before .before in
+    not-too-many (now (b .before .before .args .season)) (b .examine .ensures) (c .before .before .if1 .left) (omega (arith, c .if2 .left))
 
 pub examine-spec : {M : Type 1} → statement M
-examine-spec = tie.close (tie.spec examine-requires returns returns-2 returns-3)
+examine-spec = tie.close (tie.spec examine-requires returns refused-by-requires returns-2 returns-3)

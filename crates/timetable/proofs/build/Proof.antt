@@ -5,13 +5,15 @@ use native.Mathlib.Omega.{arith}
 use borrow.Author.Needs.{needs}
 use borrow.Author.Tests.{not-true, not-false}
 use lib.ListN.{length}
+use Rattle.timetable.specs.Tables.{tables}
 use Rattle.timetable.proofs.FirstGames.{unplaced-next, unplaced-low}
 use Rattle.timetable.proofs.Turns.{Begun, none-yet, ends-above, ends-busy, next-turn, ends-whole}
 use Rattle.timetable.proofs.build.Statement.{statement}
 use Rattle.timetable.proofs.build.Tie as tie
 
 abbrev Inv-loop : tie.InvT-loop
-Inv-loop homes aways sheet p home₀ away₀ meets₀ unplaced₀ g₀ home away meets unplaced g = Begun p homes aways sheet g home away meets unplaced
+Inv-loop homes aways sheet p home₀ away₀ meets₀ unplaced₀ g₀ home away meets unplaced g =
+    Begun p homes aways sheet g (tables home away meets) unplaced
 
 abbrev μ-loop : tie.MeasureT-loop
 μ-loop homes aways sheet p home₀ away₀ meets₀ unplaced₀ g₀ home away meets unplaced g = length homes - g
@@ -19,7 +21,7 @@ abbrev μ-loop : tie.MeasureT-loop
 loop-holds : tie.Need-loop-holds Inv-loop μ-loop
 loop-holds c =
     let pre = c .before .before .before .pre in
-    none-yet _ _ _ _ (pre .1) (pre .0) (pre .3)
+    none-yet (pre .1) (pre .0) (pre .3)
 
 shared-slice-read-b : tie.Need-shared-slice-read-b Inv-loop μ-loop
 shared-slice-read-b c = search needs
@@ -32,18 +34,22 @@ unfit-requires c κs = search needs
 
 returns : tie.Need-returns Inv-loop μ-loop
 returns c =
-    ends-above _ _ _ _ (c .before .before .before .before .before .before .before .before .pre .1) (c .before .before .before .before .loop .g) (c .before .before .before .loop-test .taken) (c .before .if1 .taken) (c .unfit .ensures)
+    let turn = c .before .before .before in
+    ends-above (turn .before .before .before .before .before .pre .1) (turn .before .loop .g) (turn .loop-test .taken) (c .before .if1 .taken) (c .unfit .ensures)
 
 put-requires : tie.Need-put-requires Inv-loop μ-loop
-put-requires c κs = let pre = c .before .before .before .before .before .before .before .before .before .before .pre in (pre .0, c .before .before .before .before .before .loop-test .taken, omega arith)
+put-requires c κs =
+    let turn = c .before .before .before .before .before in
+    (turn .before .before .before .before .before .pre .0, turn .loop-test .taken, omega arith)
 
 unfit-requires-2 : tie.Need-unfit-requires-2 Inv-loop μ-loop
 unfit-requires-2 c κs = search needs
 
 returns-2 : tie.Need-returns-2 Inv-loop μ-loop
 returns-2 c =
-    let pre = c .before .before .before .before .before .before .before .before .before .before .before .before .before .pre in
-    ends-busy _ _ _ _ (pre .1) (c .before .before .before .before .before .before .before .before .before .loop .inv) (c .before .before .before .before .before .before .before .before .loop-test .taken) (pre .2) (omega arith)
+    let turn = c .before .before .before .before .before .before .before .before in
+    let pre = turn .before .before .before .before .before .pre in
+    ends-busy (pre .1) (turn .before .loop .inv) (turn .loop-test .taken) (pre .2) (omega arith)
     (c .before .before .put .ensures) (not-true _ (c .before .if2 .taken)) (c .unfit2 .ensures)
 
 no-slot-requires : tie.Need-no-slot-requires Inv-loop μ-loop
@@ -51,9 +57,9 @@ no-slot-requires c κs = search needs
 
 add-unplaced : tie.Need-add-unplaced Inv-loop μ-loop
 add-unplaced c =
-    let l = c .before .before .before .before .before .before .before .before .before .loop in
-    let s = now (c .before .before .before .before .before .before .before .before .before .before .before .before .before .args .sheet) in
-    omega (arith, unplaced-next s (l .g) (l .inv .count) (c .no-slot .ensures), unplaced-low s (l .g + 1))
+    let l = c .before .before .before .before .before .before .before .before .before in
+    let s = now (l .before .before .before .before .args .sheet) in
+    omega (arith, unplaced-next s (l .loop .g) (l .loop .inv .count) (c .no-slot .ensures), unplaced-low s (l .loop .g + 1))
 
 add-g : tie.Need-add-g Inv-loop μ-loop
 add-g c = search needs
@@ -63,12 +69,13 @@ loop-less c = search needs
 
 loop-again : tie.Need-loop-again Inv-loop μ-loop
 loop-again c =
-    let pre = c .before .before .before .before .before .before .before .before .before .before .before .before .before .pre in
-    next-turn _ _ _ _ (pre .1) (c .before .before .before .before .before .before .before .before .before .loop .inv) (c .before .before .before .before .before .before .before .before .loop-test .taken) (pre .2) (omega arith)
+    let turn = c .before .before .before .before .before .before .before .before in
+    let pre = turn .before .before .before .before .before .pre in
+    next-turn (pre .1) (turn .before .loop .inv) (turn .loop-test .taken) (pre .2) (omega arith)
     (c .before .before .put .ensures) (not-false _ (c .before .if2 .left)) (c .no-slot .ensures)
 
 returns-3 : tie.Need-returns-3 Inv-loop μ-loop
-returns-3 c = ends-whole _ _ _ _ (c .before .before .before .before .before .pre .1) (c .before .loop .inv) (omega arith)
+returns-3 c = ends-whole (c .before .before .before .before .before .pre .1) (c .before .loop .inv) (omega arith)
 
 pub build-spec : {M : Type 1} → statement M
 build-spec =

@@ -16,15 +16,8 @@ either-requires c κs = search needs
 
 returns : tie.Need-returns
 returns c =
-    let e = c .before .either .ensures in
-    let u = c .before .before .before .before .before .busy .ensures in
-    let v = c .before .before .busy2 .ensures in
-    record {
-      answer = sym (ap not (sym (ap₂ _||_ u v) ∙ sym e ∙ c .if1 .taken));
-      home-is = refl;
-      away-is = refl;
-      meets-is = refl;
-    }
+    let e = c .before .either .ensures ∙ ap₂ _||_ (c .before .before .before .before .before .busy .ensures) (c .before .before .busy2 .ensures) in
+    record { answer = ap not (sym (c .if1 .taken) ∙ e); after = refl }
 
 join-row-requires : tie.Need-join-row-requires
 join-row-requires c κs = search needs
@@ -38,14 +31,10 @@ join-cell-requires c κs = search needs
 returns-2 : tie.Need-returns-2
 returns-2 c =
     let b = c .before .before .before .before .before .before in
-    let e = b .before .either .ensures in
-    let u = b .before .before .before .before .before .busy .ensures in
-    let v = b .before .before .busy2 .ensures in
+    let e = b .before .either .ensures ∙ ap₂ _||_ (b .before .before .before .before .before .busy .ensures) (b .before .before .busy2 .ensures) in
     record {
-      answer = sym (ap not (sym (ap₂ _||_ u v) ∙ sym e ∙ b .if1 .left));
-      home-is = c .before .before .before .before .join-row .ensures;
-      away-is = c .before .before .join-row2 .ensures;
-      meets-is = c .join-cell .ensures;
+      answer = ap not (sym (b .if1 .left) ∙ e);
+      after = rw (c .before .before .before .before .join-row .ensures, c .before .before .join-row2 .ensures, c .join-cell .ensures);
     }
 
 pub place-spec : {M : Type 1} → statement M

@@ -1,5 +1,5 @@
 -- Byte 0 is no slot and always fits; any other is one more than its slot. Assumes nothing.
-use mathlib.Core.Path.{_≡_}
+use mathlib.Core.Path.{_≡_, refl}
 use Prim.Native.Nat.{suc, _-_}
 use native.Mathlib.Omega.{arith}
 use borrow.Author.Needs.{needs}
@@ -7,7 +7,7 @@ use Rattle.timetable.proofs.put.Statement.{statement}
 use Rattle.timetable.proofs.put.Tie as tie
 
 returns : tie.Need-returns
-returns c = search needs
+returns c = rw (c .if1 .taken) (record { answer = refl; after = refl })
 
 shared-slice-read-place : tie.Need-shared-slice-read-place
 shared-slice-read-place c = search needs
@@ -28,10 +28,14 @@ cast-place-3 : tie.Need-cast-place-3
 cast-place-3 c = search needs
 
 place-requires : tie.Need-place-requires
-place-requires c κs = let pre = c .before .before .before .before .before .before .before .before .pre in (pre .0 .home-below _ (pre .1), pre .0 .away-below _ (pre .1), search needs)
+place-requires c κs =
+    let pre = c .before .before .before .before .before .before .before .before .pre in
+    (pre .0 .home-below _ (pre .1), pre .0 .away-below _ (pre .1), search needs)
 
 returns-2 : tie.Need-returns-2
-returns-2 c = let e : suc (c .before .before .before .before .before .before .before .before .before .args .b - 1) ≡ c .before .before .before .before .before .before .before .before .before .args .b = omega arith in rw e at (c .place .ensures)
+returns-2 c =
+    let b = c .before .before .before .before .before .before .before .before .before .args .b in
+    let e : suc (b - 1) ≡ b = omega arith in rw e at (c .place .ensures)
 
 pub put-spec : {M : Type 1} → statement M
 put-spec =

@@ -8,7 +8,8 @@ shared-slice-read-take-out : tie.Need-shared-slice-read-take-out
 shared-slice-read-take-out c = search needs
 
 take-out-requires : tie.Need-take-out-requires
-take-out-requires c κs = let pre = c .before .before .before .before .before .before .before .pre in (pre .0 .teams, pre .2, pre .0 .slot-low _ (pre .2))
+take-out-requires c κs =
+    let pre = c .before .before .before .before .before .before .before .pre in (pre .0 .teams, pre .2, pre .0 .slot-low _ (pre .2))
 
 put-requires : tie.Need-put-requires
 put-requires c κs = search needs
@@ -16,7 +17,7 @@ put-requires c κs = search needs
 returns : tie.Need-returns
 returns c =
     let pre = c .before .before .before .before .before .before .before .before .before .before .before .before .pre in
-    fits-reslotted 32 _ _ _ (pre .0) _ _ (pre .2) (pre .3) (pre .1) (c .before .before .before .before .take-out .ensures) (c .put .ensures)
+    fits-reslotted (pre .0) _ _ (pre .2) (pre .3) (pre .1) (c .before .before .before .before .take-out .ensures) (c .put .ensures)
 
 pub reslot-spec : {M : Type 1} → statement M
 reslot-spec =

@@ -7,7 +7,7 @@ use Rattle.timetable.proofs.take_out.Statement.{statement}
 use Rattle.timetable.proofs.take_out.Tie as tie
 
 returns : tie.Need-returns
-returns c = search needs
+returns c = rw (c .if1 .taken)
 
 shared-slice-read-lift : tie.Need-shared-slice-read-lift
 shared-slice-read-lift c = search needs
@@ -28,10 +28,14 @@ cast-lift-3 : tie.Need-cast-lift-3
 cast-lift-3 c = search needs
 
 lift-requires : tie.Need-lift-requires
-lift-requires c κs = let pre = c .before .before .before .before .before .before .before .before .pre in (pre .0 .home-below _ (pre .1), pre .0 .away-below _ (pre .1), search needs)
+lift-requires c κs =
+    let pre = c .before .before .before .before .before .before .before .before .pre in
+    (pre .0 .home-below _ (pre .1), pre .0 .away-below _ (pre .1), search needs)
 
 returns-2 : tie.Need-returns-2
-returns-2 c = let e : suc (c .before .before .before .before .before .before .before .before .before .args .b - 1) ≡ c .before .before .before .before .before .before .before .before .before .args .b = omega arith in rw e at (c .lift .ensures)
+returns-2 c =
+    let b = c .before .before .before .before .before .before .before .before .before .args .b in
+    let e : suc (b - 1) ≡ b = omega arith in rw (← e) (c .lift .ensures)
 
 pub take-out-spec : {M : Type 1} → statement M
 take-out-spec =

@@ -4,29 +4,46 @@ use borrow.Author.Needs.{needs}
 use Rattle.books.proofs.touch.teams_of.Statement.{statement}
 use Rattle.books.proofs.touch.teams_of.Tie as tie
 
-group-of-requires : tie.Need-group-of-requires
-group-of-requires c κs = search needs
+cast-one : tie.Need-cast-one
+cast-one c = search needs
 
-group-of-requires-2 : tie.Need-group-of-requires-2
-group-of-requires-2 c κs = search needs
+one-requires : tie.Need-one-requires
+one-requires c κs = search needs
 
-group-of-requires-3 : tie.Need-group-of-requires-3
-group-of-requires-3 c κs = search needs
+cast-one-2 : tie.Need-cast-one-2
+cast-one-2 c = search needs
 
-group-of-requires-4 : tie.Need-group-of-requires-4
-group-of-requires-4 c κs = search needs
+one-requires-2 : tie.Need-one-requires-2
+one-requires-2 c κs = search needs
+
+cast-one-3 : tie.Need-cast-one-3
+cast-one-3 c = search needs
+
+one-requires-3 : tie.Need-one-requires-3
+one-requires-3 c κs = search needs
+
+cast-one-4 : tie.Need-cast-one-4
+cast-one-4 c = search needs
+
+one-requires-4 : tie.Need-one-requires-4
+one-requires-4 c κs = search needs
 
 returns : tie.Need-returns
 returns c =
-    rw (c .before .before .before .group-of .ensures, c .before .before .group-of2 .ensures, c .before .group-of3 .ensures, c .group-of4 .ensures)
-    (let a = c .before .before .before .before .args in of-both (a .first) (a .second))
+    let b = c .before .before .before .before in
+    rw (b .before .before .one .ensures, b .one2 .ensures, c .before .before .one3 .ensures, c .one4 .ensures)
+    (let a = b .before .before .before .before .args in of-both (a .first) (a .second))
 
 pub teams-of-spec : {M : Type 1} → statement M
 teams-of-spec =
     tie.close
     (tie.spec
-    group-of-requires
-    group-of-requires-2
-    group-of-requires-3
-    group-of-requires-4
+    cast-one
+    one-requires
+    cast-one-2
+    one-requires-2
+    cast-one-3
+    one-requires-3
+    cast-one-4
+    one-requires-4
     returns)

@@ -1,25 +1,54 @@
 -- Two different slots, teams that are asked for, and a slot that is.
 use borrow.Author.Tests.{eq-eqb, ne-eqb}
-use Rattle.books.proofs.Asked.{touch-splits}
 use borrow.Author.Needs.{needs}
+use Rattle.books.specs.Touched.{byRow}
 use Rattle.books.proofs.touch.touches.Statement.{statement}
 use Rattle.books.proofs.touch.touches.Tie as tie
 
 returns : tie.Need-returns
-returns c = rw (touch-splits, eq-eqb _ _ (c .if1 .taken))
+unfolding byRow
+returns c = rw (eq-eqb _ _ (c .if1 .taken))
 
-teams-asked-requires : tie.Need-teams-asked-requires
-teams-asked-requires c κs = search needs
+cast-teams-touch : tie.Need-cast-teams-touch
+cast-teams-touch c = search needs
 
-slots-asked-requires : tie.Need-slots-asked-requires
-slots-asked-requires c κs = search needs
+cast-teams-touch-2 : tie.Need-cast-teams-touch-2
+cast-teams-touch-2 c = search needs
+
+teams-touch-requires : tie.Need-teams-touch-requires
+teams-touch-requires c κs = search needs
+
+slot-touches-requires : tie.Need-slot-touches-requires
+slot-touches-requires c κs = search needs
+
+slot-touches-requires-2 : tie.Need-slot-touches-requires-2
+slot-touches-requires-2 c κs = search needs
 
 returns-2 : tie.Need-returns-2
-returns-2 c = rw (touch-splits, ne-eqb _ _ (c .before .before .before .if1 .left), ← c .before .before .teams-asked .ensures, c .before .if2 .taken) (c .slots-asked .ensures)
+unfolding byRow
+returns-2 c =
+    let a = c .before .before in
+    rw (
+      ne-eqb _ _ (a .before .before .before .before .if1 .left),
+      ← a .before .teams-touch .ensures,
+      a .if2 .taken,
+      c .before .slot-touches .ensures,
+      c .slot-touches2 .ensures,
+    )
 
 returns-3 : tie.Need-returns-3
-returns-3 c = rw (touch-splits, ne-eqb _ _ (c .before .before .if1 .left), ← c .before .teams-asked .ensures, c .if2 .left)
+unfolding byRow
+returns-3 c = rw (ne-eqb _ _ (c .before .before .before .before .if1 .left), ← c .before .teams-touch .ensures, c .if2 .left)
 
 pub touches-spec : {M : Type 1} → statement M
 touches-spec =
-    tie.close (tie.spec returns teams-asked-requires slots-asked-requires returns-2 returns-3)
+    tie.close
+    (tie.spec
+    returns
+    cast-teams-touch
+    cast-teams-touch-2
+    teams-touch-requires
+    slot-touches-requires
+    slot-touches-requires-2
+    returns-2
+    returns-3)

@@ -1,10 +1,12 @@
 -- Every turn lends out the stretch of a touched constraint, or writes nothing.
-use mathlib.Core.Path.{refl, sym, _∙_}
+use mathlib.Core.Path.{_≡_, refl, sym, _∙_}
 use mathlib.Core.Logic.{⊎-elim}
 use Prim.Native.Nat.{_-_, _≤_}
 use native.Mathlib.Omega.{arith}
+use denote.Ref.{now}
 use borrow.Author.Needs.{needs}
-use Rattle.books.proofs.Turns.{Walk, all, ranges, turn-fits, turn-counted, turn-ready, turn-reworked, turn-kept}
+use Rattle.timetable.specs.Tables.{tables}
+use Rattle.books.proofs.Turns.{Walk, Turn, turn, all, ranges}
 use Rattle.books.proofs.Walked.{walked-none, walked-done}
 use Rattle.books.proofs.walk.walk.Statement.{statement}
 use Rattle.books.proofs.walk.walk.Tie as tie
@@ -22,17 +24,40 @@ loop-holds c = (search needs, walked-none _ _ _ _ _ _ refl refl)
 constraint-of-requires : tie.Need-constraint-of-requires Inv-loop μ-loop
 constraint-of-requires c κs = (c .before .before .before .before .before .before .pre .0 .measured, c .if1 .taken)
 
-entries-requires : tie.Need-entries-requires Inv-loop μ-loop
-entries-requires c κs = search needs
+entries-of-requires : tie.Need-entries-of-requires Inv-loop μ-loop
+entries-of-requires c κs = search needs
+
+-- what holds of a turn once its constraint has been read
+here : (c : tie.After-entries-of Inv-loop μ-loop)
+    → let l = c .before .before .before .before in
+    let a = l .before .before .before .before .args in
+    Turn (now (a .season)) (a .z) (a .touch) (tables (now (a .home)) (now (a .away)) (now (a .meets))) (now (a .ledger)) (now (a .tally))
+    (l .loop .k)
+    (l .loop .at)
+    (l .loop .ledger)
+    (l .loop .tally)
+    (l .loop .sums)
+    (c .before .constraint-of .result)
+    (c .entries-of .result)
+here c =
+    let t = c .before .before in
+    let l = t .before .before in
+    let a = l .before .before .before .before in
+    turn (a .pre .0) (a .args .touch) (l .loop .inv .1) (t .if1 .taken) (c .before .constraint-of .ensures) (c .entries-of .ensures)
 
 add-end : tie.Need-add-end Inv-loop μ-loop
-add-end c = omega (arith, turn-fits (c .before .before .before .before .before .before .before .before .pre .0) (c .before .before .before .before .before .before .before .before .args .touch) (c .before .before .before .before .loop .inv .1) (c .before .before .if1 .taken) (c .before .constraint-of .ensures) (c .entries .ensures), c .before .before .before .before .loop .inv .1 .laid .long, c .before .before .before .before .before .before .before .before .good)
+add-end c =
+    let l = c .before .before .before .before in
+    omega (arith, here c .fits, l .loop .inv .1 .laid .long, l .before .before .before .before .good)
 
 is-touched-requires : tie.Need-is-touched-requires Inv-loop μ-loop
-is-touched-requires c κs = c .before .before .before .before .before .before .before .before .pre .1
+is-touched-requires c κs = let l = c .before .before .before .before in l .before .before .before .before .pre .1
 
 mul-renew : tie.Need-mul-renew Inv-loop μ-loop
-mul-renew c = omega (arith, turn-fits (c .before .before .before .before .before .before .before .before .before .before .pre .0) (c .before .before .before .before .before .before .before .before .before .before .args .touch) (c .before .before .before .before .before .before .loop .inv .1) (c .before .before .before .before .if1 .taken) (c .before .before .before .constraint-of .ensures) (c .before .before .entries .ensures), c .before .before .before .before .before .before .loop .inv .1 .laid .long, c .before .before .before .before .before .before .before .before .before .before .good)
+mul-renew c =
+    let t = c .before .before in
+    let l = t .before .before .before .before in
+    omega (arith, here t .fits, l .loop .inv .1 .laid .long, l .before .before .before .before .good)
 
 sub-renew : tie.Need-sub-renew Inv-loop μ-loop
 sub-renew c = search needs
@@ -41,36 +66,29 @@ part-renew-start : tie.Need-part-renew-start Inv-loop μ-loop
 part-renew-start c = search needs
 
 part-renew-end : tie.Need-part-renew-end Inv-loop μ-loop
-part-renew-end c = turn-fits (c .before .before .before .before .before .before .before .before .before .before .pre .0) (c .before .before .before .before .before .before .before .before .before .before .args .touch) (c .before .before .before .before .before .before .loop .inv .1) (c .before .before .before .before .if1 .taken) (c .before .before .before .constraint-of .ensures) (c .before .before .entries .ensures)
+part-renew-end c = here (c .before .before) .fits
 
 renew-requires : tie.Need-renew-requires Inv-loop μ-loop
-renew-requires c κs = (turn-ready (c .before .before .before .before .before .before .before .before .before .before .before .before .pre .0) (c .before .before .before .before .before .before .before .before .before .before .before .before .args .touch) (c .before .before .before .before .before .before .before .before .loop .inv .1) (c .before .before .before .before .before .before .if1 .taken) (c .before .before .before .before .before .constraint-of .ensures) (c .before .before .before .before .entries .ensures), turn-counted (c .before .before .before .before .before .before .before .before .before .before .before .before .pre .0) (c .before .before .before .before .before .before .before .before .before .before .before .before .args .touch) (c .before .before .before .before .before .before .before .before .loop .inv .1) (c .before .before .before .before .before .before .if1 .taken) (c .before .before .before .before .before .constraint-of .ensures) (c .before .before .before .before .entries .ensures))
+renew-requires c κs = let t = here (c .before .before .before .before) in (t .ready, t .counted)
 
 add-k : tie.Need-add-k Inv-loop μ-loop
-add-k c = omega (arith, c .before .before .before .before .if1 .taken, ranges (c .before .before .before .before .before .before .before .before .before .before .pre .0) .constraints)
+add-k c =
+    let t = c .before .before .before .before in
+    omega (arith, t .if1 .taken, ranges (t .before .before .before .before .before .before .pre .0) .constraints)
 
 loop-less : tie.Need-loop-less Inv-loop μ-loop
 loop-less c = omega (arith, c .before .before .before .before .if1 .taken)
 
 loop-again : tie.Need-loop-again Inv-loop μ-loop
-loop-again c = ⊎-elim
+loop-again c =
+    let t = here (c .before .before) in
+    ⊎-elim
     (λ w. (
       omega (arith, c .before .before .before .before .if1 .taken),
       rw (w .8, w .9, w .10)
-          (turn-reworked (c .before .before .before .before .before .before .before .before .before .before .pre .0) (c .before .before .before .before .before .before .before .before .before .before .args .touch) (c .before .before .before .before .before .before .loop .inv .1) (c .before .before .before .before .if1 .taken) (c .before .before .before .constraint-of .ensures) (c .before .before .entries .ensures)
-          (sym (c .before .is-touched .ensures) ∙ w .0 .taken)
-          (w .3 .ensures .0)
-          refl
-          (w .3 .ensures .1)
-          (w .3 .ensures .2)
-          (w .3 .ensures .3)),
+          (t .reworked (sym (c .before .is-touched .ensures) ∙ w .0 .taken) (w .3 .ensures .0) refl (w .3 .ensures .1) (w .3 .ensures .2) (w .3 .ensures .3)),
     ))
-    (λ w. (
-      omega (arith, c .before .before .before .before .if1 .taken),
-      rw (w .1, w .2, w .3)
-          (turn-kept (c .before .before .before .before .before .before .before .before .before .before .pre .0) (c .before .before .before .before .before .before .before .before .before .before .args .touch) (c .before .before .before .before .before .before .loop .inv .1) (c .before .before .before .before .if1 .taken) (c .before .before .before .constraint-of .ensures) (c .before .before .entries .ensures)
-          (sym (c .before .is-touched .ensures) ∙ w .0 .left)),
-    ))
+    (λ w. (omega (arith, c .before .before .before .before .if1 .taken), rw (w .1, w .2, w .3) (t .kept (sym (c .before .is-touched .ensures) ∙ w .0 .left))))
     (c .if2 .came)
 
 same-length : tie.Need-same-length Inv-loop μ-loop
@@ -80,10 +98,10 @@ same-length-2 : tie.Need-same-length-2 Inv-loop μ-loop
 same-length-2 c = c .before .before .loop .inv .1 .listed .long
 
 returns : tie.Need-returns Inv-loop μ-loop
-returns c = walked-done (c .before .before .loop .inv .1) (c .before .before .before .before .before .before .pre .0 .ledger-length) (c .before .before .before .before .before .before .pre .0 .tally-length)
-    (omega (arith, all (c .before .before .before .before .before .before .pre .0), c .before .before .loop .inv .0, c .if1 .left))
-    refl
-    refl
+returns c =
+    let l = c .before .before in
+    let g = l .before .before .before .before .pre .0 in
+    walked-done (l .loop .inv .1) (g .ledger-length) (g .tally-length) (omega (arith, all g, l .loop .inv .0, c .if1 .left)) refl refl
 
 pub walk-spec : {M : Type 1} → statement M
 walk-spec =
@@ -93,7 +111,7 @@ walk-spec =
     μ-loop
     loop-holds
     constraint-of-requires
-    entries-requires
+    entries-of-requires
     add-end
     is-touched-requires
     mul-renew

@@ -1,11 +1,21 @@
 -- The tests in their order. Assumes nothing.
 use denote.Ref.{now}
-use mathlib.Core.Path.{sym, _∙_}
+use mathlib.Core.Path.{_≡_, sym, _∙_}
+use mathlib.Core.List.{List}
+use mathlib.Core.Bool.{false}
+use Prim.Native.Nat.{ℕ}
 use borrow.Author.Needs.{needs}
-use Rattle.robinx.specs.Season.{decode}
-use Rattle.checker.proofs.Entry.{season-refused, long-enough, sound-season, few-constraints, lengths-refused, buildable, sheet-refused, admitted}
+use Rattle.robinx.specs.Calls.{Buffers, buffers}
+use Rattle.checker.proofs.Entry.{season-refused, few-constraints, misfit, lengths-refused, buildable, sheet-refused, admitted}
 use Rattle.checker.proofs.admission.admit.Statement.{statement}
 use Rattle.checker.proofs.admission.admit.Tie as tie
+
+-- the season and the buffers, from its examination
+abbrev season : tie.After-examine → List ℕ
+season c = now (c .before .before .before .before .before .args .season)
+
+abbrev lent : tie.After-examine → Buffers
+lent c = let a = c .before .before .before .before .before .args in buffers (now (a .sheet)) (now (a .ledger)) (now (a .tally))
 
 examine-requires : tie.Need-examine-requires
 examine-requires c κs = search needs
@@ -14,76 +24,46 @@ refused-by-requires : tie.Need-refused-by-requires
 refused-by-requires c κs = search needs
 
 returns : tie.Need-returns
-returns c =
-    let a = c .before .before .before .before .before .before .args in
-    rw (c .refused-by .ensures) (season-refused (now (a .season)) (now (a .sheet)) (a .ledger) (a .tally) (c .before .before .before .examine .ensures) (c .before .if1 .taken))
-
-sizes-requires : tie.Need-sizes-requires
-sizes-requires c κs =
-    let a = c .before .before .before .before .before .args in
-    long-enough (now (a .season)) (now (a .sheet)) (a .ledger) (a .tally) (c .before .before .examine .ensures) (c .if1 .left)
+returns c = rw (c .refused-by .ensures) (season-refused (season (c .before .before .before)) (lent (c .before .before .before)) (c .before .before .before .examine .ensures) (c .before .if1 .taken))
 
 lengths-bad-requires : tie.Need-lengths-bad-requires
-lengths-bad-requires c κs =
-    let a = c .before .before .before .before .before .before .args in
-    few-constraints (now (a .season)) (now (a .sheet)) (a .ledger) (a .tally) (c .before .before .before .examine .ensures) (c .before .if1 .left) (c .sizes .ensures)
+lengths-bad-requires c κs = few-constraints (season (c .before .before .before)) (lent (c .before .before .before)) (c .before .before .before .examine .ensures) (c .before .if1 .left)
 
 refused-by-requires-2 : tie.Need-refused-by-requires-2
 refused-by-requires-2 c κs = search needs
 
 returns-2 : tie.Need-returns-2
 returns-2 c =
-    let sized = c .before .before .before in
-    let a = sized .before .before .before .before .before .before .args in
+    let e = c .before .before .before .before .before .before in
     rw (c .refused-by2 .ensures)
-    (lengths-refused (now (a .season)) (now (a .sheet)) (a .ledger) (a .tally) (sized .before .before .before .examine .ensures) (sized .before .if1 .left) (sized .sizes .ensures) (sym (c .before .before .lengths-bad .ensures) ∙ c .before .if2 .taken))
+    (lengths-refused (season e) (lent e) (e .examine .ensures) (c .before .before .before .before .if1 .left) (sym (c .before .before .lengths-bad .ensures) ∙ c .before .if2 .taken))
 
-homes-requires : tie.Need-homes-requires
-homes-requires c κs =
-    let sized = c .before .before in
-    let a = sized .before .before .before .before .before .before .args in
-    sound-season (now (a .season)) (now (a .sheet)) (a .ledger) (a .tally) (sized .before .before .before .examine .ensures) (sized .before .if1 .left) .measured (sized .sizes .ensures)
+-- past sentence 7 the buffers have their lengths
+fit : (c : tie.Else2) → let e = c .before .before .before .before .before in misfit (season e) (lent e) (e .examine .ensures) (c .before .before .before .if1 .left) ≡ false
+fit c = sym (c .before .lengths-bad .ensures) ∙ c .if2 .left
 
-aways-requires : tie.Need-aways-requires
-aways-requires c κs =
-    let sized = c .before .before .before in
-    let a = sized .before .before .before .before .before .before .args in
-    sound-season (now (a .season)) (now (a .sheet)) (a .ledger) (a .tally) (sized .before .before .before .examine .ensures) (sized .before .if1 .left) .measured (sized .sizes .ensures)
-
-build-requires : tie.Need-build-requires
-unfolding decode
-build-requires c κs =
-    let fit = c .before .before .before .before .before in
-    let sized = fit .before .before in
-    let a = sized .before .before .before .before .before .before .args in
-    let may = buildable (now (a .season)) (now (a .sheet)) (a .ledger) (a .tally) (sized .before .before .before .examine .ensures) (sized .before .if1 .left) (sized .sizes .ensures) (sym (fit .before .lengths-bad .ensures) ∙ fit .if2 .left) in
-    rw (c .before .before .before .before .homes .ensures, c .before .before .before .aways .ensures) (may .0, may .1, may .2, sized .before .before .before .before .before .before .pre)
+lay-tables-requires : tie.Need-lay-tables-requires
+lay-tables-requires c κs =
+    let f = c .before .before .before in
+    let e = f .before .before .before .before .before in
+    let may = buildable (season e) (lent e) (e .examine .ensures) (f .before .before .before .if1 .left) (fit f) in
+    (may .0, may .1, may .2, may .3, e .before .before .before .before .before .pre)
 
 returns-3 : tie.Need-returns-3
-unfolding decode
 returns-3 c =
-    let built = c .before in
-    let fit = built .before .before .before .before .before .before in
-    let sized = fit .before .before in
-    let a = sized .before .before .before .before .before .before .args in
-    admitted (now (a .season)) (now (a .sheet)) (a .ledger) (a .tally) (sized .before .before .before .examine .ensures) (sized .before .if1 .left) (sized .sizes .ensures) (sym (fit .before .lengths-bad .ensures) ∙ fit .if2 .left)
-    (rw (built .before .before .before .before .before .homes .ensures, built .before .before .before .before .aways .ensures) at (built .build .ensures))
-    (c .if3 .taken)
+    let f = c .before .before .before .before .before in
+    let e = f .before .before .before .before .before in
+    admitted (season e) (lent e) (e .examine .ensures) (f .before .before .before .if1 .left) (fit f) (c .before .lay-tables .ensures) (c .if3 .taken)
 
 refused-by-requires-3 : tie.Need-refused-by-requires-3
 refused-by-requires-3 c κs = search needs
 
 returns-4 : tie.Need-returns-4
-unfolding decode
 returns-4 c =
-    let built = c .before .before in
-    let fit = built .before .before .before .before .before .before in
-    let sized = fit .before .before in
-    let a = sized .before .before .before .before .before .before .args in
+    let f = c .before .before .before .before .before .before in
+    let e = f .before .before .before .before .before in
     rw (c .refused-by3 .ensures)
-    (sheet-refused (now (a .season)) (now (a .sheet)) (a .ledger) (a .tally) (sized .before .before .before .examine .ensures) (sized .before .if1 .left) (sized .sizes .ensures) (sym (fit .before .lengths-bad .ensures) ∙ fit .if2 .left)
-    (rw (built .before .before .before .before .before .homes .ensures, built .before .before .before .before .aways .ensures) at (built .build .ensures))
-    (c .before .if3 .left))
+    (sheet-refused (season e) (lent e) (e .examine .ensures) (f .before .before .before .if1 .left) (fit f) (c .before .before .lay-tables .ensures) (c .before .if3 .left))
 
 pub admit-spec : {M : Type 1} → statement M
 admit-spec =
@@ -92,13 +72,10 @@ admit-spec =
     examine-requires
     refused-by-requires
     returns
-    sizes-requires
     lengths-bad-requires
     refused-by-requires-2
     returns-2
-    homes-requires
-    aways-requires
-    build-requires
+    lay-tables-requires
     returns-3
     refused-by-requires-3
     returns-4)

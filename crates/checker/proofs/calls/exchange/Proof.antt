@@ -1,62 +1,57 @@
 -- Sentences 9, 11 and 12, then the tables. Assumes nothing.
 use denote.Ref.{now}
-use mathlib.Core.Path.{_≡_, refl, sym, ap, _∙_}
-use mathlib.Core.List.{List}
+use mathlib.Core.Path.{sym, _∙_}
 use mathlib.Core.Logic.{inl, inr}
-use mathlib.Core.Bool.{Bool, true, false}
-use Prim.Native.Nat.{ℕ}
 use native.Mathlib.Omega.{arith}
-use lib.Dec.{eqb}
-use lib.ListN.{length, getD, set, length-set}
 use borrow.Author.Needs.{needs}
-use borrow.Author.Tests.{not-true, not-false}
 use Rattle.robinx.specs.Season.{decode}
-use Rattle.robinx.specs.Calls.{Call, moved}
 use Rattle.season.proofs.Read.{games-read}
-use Rattle.checker.proofs.Outcomes.{long-enough, ready-passed}
 use Rattle.checker.proofs.Accept.{as-many-slots, exchange-fault-9, exchange-fault-11, exchange-fault-12}
 use Rattle.checker.proofs.calls.exchange.Statement.{statement}
 use Rattle.checker.proofs.calls.exchange.Tie as tie
-use Rattle.checker.proofs.calls.exchange.Reads as reads
-use Rattle.checker.proofs.calls.exchange.Lts as lts
-use Rattle.checker.proofs.calls.declined.Reads as declined-reads
-use Rattle.checker.proofs.calls.swap.Reads as swap-reads
-use Rattle.checker.proofs.calls.unplaced_pair.Reads as unplaced-pair-reads
-use Rattle.season.proofs.reader.sizes.Reads as sizes-reads
-
-sizes-requires : tie.Need-sizes-requires
-sizes-requires c κs = long-enough (ready-passed (c .before .before .before .before .pre))
 
 declined-requires : tie.Need-declined-requires
 declined-requires c κs = search needs
 
 returns : tie.Need-returns
 returns c =
-    let a = c .before .before .before .before .before .before .before .args in
-    rw (c .declined .ensures, exchange-fault-9 (decode (now (a .season))) (now (a .sheet)) (a .game) (a .other) (inl (omega (arith, c .before .if1 .taken, games-read _ (c .before .before .sizes .ensures)))))
+    let s = c .before .before .before .before .before .before in
+    let a = s .args in
+    let e = games-read _ (s .pre .sizes) in
+    rw (c .declined .ensures, exchange-fault-9 (decode (now (a .season))) (now (a .sheet)) (a .game) (a .other) (inl (omega (arith, c .before .if1 .taken, e))))
 
 declined-requires-2 : tie.Need-declined-requires-2
 declined-requires-2 c κs = search needs
 
 returns-2 : tie.Need-returns-2
 returns-2 c =
-    let a = c .before .before .before .before .before .before .before .before .args in
-    rw (c .declined2 .ensures, exchange-fault-9 (decode (now (a .season))) (now (a .sheet)) (a .game) (a .other) (inr (omega (arith, c .before .if2 .taken, games-read _ (c .before .before .before .sizes .ensures)))))
+    let s = c .before .before .before .before .before .before .before in
+    let a = s .args in
+    let e = games-read _ (s .pre .sizes) in
+    rw (c .declined2 .ensures, exchange-fault-9 (decode (now (a .season))) (now (a .sheet)) (a .game) (a .other) (inr (omega (arith, c .before .if2 .taken, e))))
 
 declined-requires-3 : tie.Need-declined-requires-3
 declined-requires-3 c κs = search needs
 
 returns-3 : tie.Need-returns-3
 returns-3 c =
-    let a = c .before .before .before .before .before .before .before .before .before .args in
-    let e = games-read _ (c .before .before .before .before .sizes .ensures) in
-    rw (c .declined3 .ensures, exchange-fault-11 (decode (now (a .season))) (now (a .sheet)) (a .game) (a .other) (omega (arith, e, c .before .before .before .if1 .left)) (omega (arith, e, c .before .before .if2 .left)) (c .before .if3 .taken))
+    let i = c .before .before .before in
+    let s = i .before .before .before .before .before in
+    let a = s .args in
+    let e = games-read _ (s .pre .sizes) in
+    rw (
+      c .declined3 .ensures,
+      exchange-fault-11 (decode (now (a .season))) (now (a .sheet)) (a .game) (a .other) (omega (arith, e, i .if1 .left)) (omega (arith, e, c .before .before .if2 .left))
+          (c .before .if3 .taken),
+    )
 
 unplaced-pair-requires : tie.Need-unplaced-pair-requires
 unplaced-pair-requires c κs =
-    let e = games-read _ (c .before .before .before .before .sizes .ensures) in
-    let l = as-many-slots (c .before .before .before .before .before .before .before .before .before .pre) in
-    (omega (arith, e, l, c .before .before .before .if1 .left), omega (arith, e, l, c .before .before .if2 .left))
+    let i = c .before .before .before in
+    let s = i .before .before .before .before .before in
+    let e = games-read _ (s .pre .sizes) in
+    let l = as-many-slots (s .pre) in
+    (omega (arith, e, l, i .if1 .left), omega (arith, e, l, c .before .before .if2 .left))
 
 declined-requires-4 : tie.Need-declined-requires-4
 declined-requires-4 c κs = search needs
@@ -66,23 +61,28 @@ same-length c = search needs
 
 returns-4 : tie.Need-returns-4
 returns-4 c =
-    let a = c .before .before .before .before .before .before .before .before .before .before .before .before .args in
-    let e = games-read _ (c .before .before .before .before .before .before .before .sizes .ensures) in
+    let i = c .before .before .before .before .before .before in
+    let s = i .before .before .before .before .before in
+    let a = s .args in
+    let e = games-read _ (s .pre .sizes) in
     rw (
       c .declined4 .ensures,
-      exchange-fault-12 (decode (now (a .season))) (now (a .sheet)) (a .game) (a .other) (omega (arith, e, c .before .before .before .before .before .before .if1 .left)) (omega (arith, e, c .before .before .before .before .before .if2 .left)) (c .before .before .before .before .if3 .left)
+      exchange-fault-12 (decode (now (a .season))) (now (a .sheet)) (a .game) (a .other) (omega (arith, e, i .if1 .left)) (omega (arith, e, c .before .before .before .before .before .if2 .left))
+          (c .before .before .before .before .if3 .left)
           (sym (c .before .before .unplaced-pair .ensures) ∙ c .before .if4 .taken),
     )
 
 swap-requires : tie.Need-swap-requires
 swap-requires c κs =
-    let e = games-read _ (c .before .before .before .before .before .before .before .before .before .before .before .before .sizes .ensures) in (
-      c .before .before .before .before .before .before .before .before .before .before .before .before .before .before .before .before .before .pre,
-      c .before .before .before .before .before .before .before .before .before .before .before .before .sizes .ensures,
-      omega (arith, e, c .before .before .before .before .before .before .before .before .before .before .before .if1 .left),
-      omega (arith, e, c .before .before .before .before .before .before .before .before .before .before .if2 .left),
-      c .before .before .before .before .before .before .before .before .before .if3 .left,
-      sym (c .before .before .before .before .before .before .before .unplaced-pair .ensures) ∙ c .before .before .before .before .before .before .if4 .left,
+    let u = c .before .before .before .before .before .before in
+    let i = u .before .before .before .before .before in
+    let s = i .before .before .before .before .before in
+    let e = games-read _ (s .pre .sizes) in (
+      s .pre,
+      omega (arith, e, i .if1 .left),
+      omega (arith, e, u .before .before .before .before .if2 .left),
+      u .before .before .before .if3 .left,
+      sym (u .before .unplaced-pair .ensures) ∙ u .if4 .left,
     )
 
 same-length-2 : tie.Need-same-length-2
@@ -101,7 +101,6 @@ pub exchange-spec : {M : Type 1} → statement M
 exchange-spec =
     tie.close
     (tie.spec
-    sizes-requires
     declined-requires
     returns
     declined-requires-2

@@ -13,58 +13,70 @@ use Rattle.checker.proofs.calls.swap.Statement.{statement}
 use Rattle.checker.proofs.calls.swap.Tie as tie
 
 homes-requires : tie.Need-homes-requires
-homes-requires c κs = is-measured (c .before .before .before .before .pre .0) (c .before .before .before .before .pre .1)
+homes-requires c κs = is-measured (c .before .before .before .before .pre .0)
 
 aways-requires : tie.Need-aways-requires
-aways-requires c κs = is-measured (c .before .before .before .before .before .pre .0) (c .before .before .before .before .before .pre .1)
+aways-requires c κs = is-measured (c .before .before .before .before .before .pre .0)
 
 slice-read-here : tie.Need-slice-read-here
 slice-read-here c = omega (arith, as-many-slots (c .before .before .before .before .before .before .before .pre .0))
 
 slice-read-there : tie.Need-slice-read-there
-slice-read-there c = omega (arith, as-many-slots (c .before .before .before .before .before .before .before .before .pre .0))
+slice-read-there c = let s = c .before .before .before .before in omega (arith, as-many-slots (s .before .before .before .before .pre .0))
 
 swap-requires : tie.Need-swap-requires
 unfolding decode
 swap-requires c κs =
-    let h = c .before .before .before .before .before .before .before .before .before .before .before .before .pre in
-    rw (c .before .before .before .before .before .before .before .homes .ensures, c .before .before .before .before .before .before .aways .ensures)
-    (range-32 (h .0), h .0 .tables, omega (arith, as-many-games (h .0)), omega (arith, as-many-games (h .0)), h .4)
+    let n = c .before .before .before .before .before .before in
+    let p = n .before .before .before .before .before .before .pre in
+    rw (n .before .homes .ensures, n .aways .ensures)
+    (range-32 (p .0), p .0 .tables, omega (arith, as-many-games (p .0)), omega (arith, as-many-games (p .0)), p .3)
 
 move-of-requires : tie.Need-move-of-requires
 unfolding decode
 move-of-requires c κs =
-    let r = c .before .before .before .before .before .before .before .before .before .before .before .before .before .before .pre .0 in
-    rw (c .before .before .before .before .before .before .before .before .before .homes .ensures, c .before .before .before .before .before .before .before .before .aways .ensures) (omega (arith, as-many-games r), omega (arith, as-many-guests r))
+    let t = c .before in
+    let n = t .before .before .before .before .before .before .before in
+    let r = n .before .before .before .before .before .before .pre .0 in
+    rw (n .before .homes .ensures, n .aways .ensures) (omega (arith, as-many-games r), omega (arith, as-many-guests r))
 
 move-of-requires-2 : tie.Need-move-of-requires-2
 unfolding decode
 move-of-requires-2 c κs =
-    let r = c .before .before .before .before .before .before .before .before .before .before .before .before .before .before .before .pre .0 in
-    rw (c .before .before .before .before .before .before .before .before .before .before .homes .ensures, c .before .before .before .before .before .before .before .before .before .aways .ensures) (omega (arith, as-many-games r), omega (arith, as-many-guests r))
+    let t = c .before .before in
+    let n = t .before .before .before .before .before .before .before in
+    let r = n .before .before .before .before .before .before .pre .0 in
+    rw (n .before .homes .ensures, n .aways .ensures) (omega (arith, as-many-games r), omega (arith, as-many-guests r))
 
 slice-write-sheet : tie.Need-slice-write-sheet
-slice-write-sheet c = let h = c .before .before .before .before .before .before .before .before .before .before .before .before .before .before .before .before .pre in omega (arith, as-many-slots (h .0))
+slice-write-sheet c = let t = c .before .before .before in let n = t .before .before .before .before .before .before .before in omega (arith, as-many-slots (n .before .before .before .before .before .before .pre .0))
 
 slice-write-sheet-2 : tie.Need-slice-write-sheet-2
-slice-write-sheet-2 c = let h = c .before .before .before .before .before .before .before .before .before .before .before .before .before .before .before .before .pre in rw length-set (omega (arith, as-many-slots (h .0)))
+slice-write-sheet-2 c = let t = c .before .before .before in let n = t .before .before .before .before .before .before .before in rw length-set (omega (arith, as-many-slots (n .before .before .before .before .before .before .pre .0)))
+
+moves-requires : tie.Need-moves-requires
+unfolding decode
+moves-requires c κs =
+    let t = c .before .before .before in
+    let n = t .before .before .before .before .before .before .before in
+    let a = n .before .before .before .before .before .before .args in
+    let p = n .before .before .before .before .before .before .pre in
+    let here = slot-possible (p .0) (p .1) in
+    let there = slot-possible (p .0) (p .2) in (
+      move-possible (p .0) (a .g) _ _ (rw (n .before .homes .ensures, n .aways .ensures) at (c .before .move-of .ensures)) (p .1) here there,
+      move-possible (p .0) (a .h) _ _ (rw (n .before .homes .ensures, n .aways .ensures) at (c .move-of2 .ensures)) (p .2) there here,
+    )
 
 rework-requires : tie.Need-rework-requires
 unfolding decode moved
 rework-requires c κs =
-    let tried = c .before .before .before .before .before .before .before .before in
-    let a = tried .before .before .before .before .before .before .before .before .before .before .before .before .before .args in
-    let h = tried .before .before .before .before .before .before .before .before .before .before .before .before .before .pre in
-    let eh = tried .before .before .before .before .before .before .before .before .homes .ensures in
-    let ea = tried .before .before .before .before .before .before .before .aways .ensures in
-    let f = rw (c .before .before .before .before .before .before .before .if1 .taken, eh, ea) at (tried .swap .ensures) in
-    let e = exchange-no-fault (decode (now (a .season))) (now (a .sheet)) (a .g) (a .h) (h .2) (h .3) (h .4) (h .5) (not-true _ (sym (f .no-clash))) in
-    let here = slot-possible (h .0) (h .2) in
-    let there = slot-possible (h .0) (h .3) in (
-      given-after (now (a .ledger)) (now (a .tally)) (Call.exchange (a .g) (a .h)) (h .0) e f (h .1),
-      move-possible (h .0) (a .g) _ _ (rw (eh, ea) at (c .before .before .before .before .before .before .move-of .ensures)) (h .2) here there,
-      move-possible (h .0) (a .h) _ _ (rw (eh, ea) at (c .before .before .before .before .before .move-of2 .ensures)) (h .3) there here,
-    )
+    let t = c .before .before .before .before .before .before .before .before .before in
+    let n = t .before .before .before .before .before .before .before in
+    let a = n .before .before .before .before .before .before .args in
+    let p = n .before .before .before .before .before .before .pre in
+    let f = rw (c .before .before .before .before .before .before .before .before .if1 .taken, n .before .homes .ensures, n .aways .ensures) at (t .swap .ensures) in
+    let e = exchange-no-fault (decode (now (a .season))) (now (a .sheet)) (a .g) (a .h) (p .1) (p .2) (p .3) (p .4) (not-true _ (sym (f .no-clash))) in
+    (given-after (p .0) (Call.exchange (a .g) (a .h)) e f, c .before .before .before .before .before .moves .ensures .3)
 
 same-length : tie.Need-same-length
 same-length c = search needs
@@ -78,17 +90,16 @@ same-length-3 c = search needs
 returns : tie.Need-returns
 unfolding decode moved
 returns c =
-    let tried = c .before .before .before .before .before .before .before .before .before .before .before .before .before in
-    let a = tried .before .before .before .before .before .before .before .before .before .before .before .before .before .args in
-    let h = tried .before .before .before .before .before .before .before .before .before .before .before .before .before .pre in
-    let eh = tried .before .before .before .before .before .before .before .before .homes .ensures in
-    let ea = tried .before .before .before .before .before .before .before .aways .ensures in
-    let f = rw (c .before .before .before .before .before .before .before .before .before .before .before .before .if1 .taken, eh, ea) at (tried .swap .ensures) in
-    let e = exchange-no-fault (decode (now (a .season))) (now (a .sheet)) (a .g) (a .h) (h .2) (h .3) (h .4) (h .5) (not-true _ (sym (f .no-clash))) in
-    call-is (now (a .ledger)) (now (a .tally)) (Call.exchange (a .g) (a .h)) (h .0) e f
-    (c .before .before .before .before .rework .ensures)
-    (exchange-touched (decode (now (a .season))) (now (a .sheet)) (a .g) (a .h) (rw (eh, ea) at (c .before .before .before .before .before .before .before .before .before .before .before .move-of .ensures)) (rw (eh, ea) at (c .before .before .before .before .before .before .before .before .before .before .move-of2 .ensures)))
-    (unplaced-after-exchange (now (a .sheet)) (a .g) (a .h) (decode (now (a .season)) .G) (h .2) (h .3) (h .4) (as-many-slots (h .0)) (h .0 .count) (h .5))
+    let m = c .before .before .before .before .before .before .before .before .before .before in
+    let t = m .before .before .before .before in
+    let n = t .before .before .before .before .before .before .before in
+    let a = n .before .before .before .before .before .before .args in
+    let p = n .before .before .before .before .before .before .pre in
+    let f = rw (m .before .before .before .if1 .taken, n .before .homes .ensures, n .aways .ensures) at (t .swap .ensures) in
+    let e = exchange-no-fault (decode (now (a .season))) (now (a .sheet)) (a .g) (a .h) (p .1) (p .2) (p .3) (p .4) (not-true _ (sym (f .no-clash))) in
+    call-is (p .0) (Call.exchange (a .g) (a .h)) e f (c .before .before .before .before .rework .ensures)
+    (exchange-touched (decode (now (a .season))) (now (a .sheet)) (m .moves .result) (m .moves .ensures) (a .g) (a .h) (rw (n .before .homes .ensures, n .aways .ensures) at (m .before .before .move-of .ensures)) (rw (n .before .homes .ensures, n .aways .ensures) at (m .before .move-of2 .ensures)))
+    (unplaced-after-exchange (now (a .sheet)) (a .g) (a .h) (decode (now (a .season)) .G) (p .1) (p .2) (p .3) (as-many-slots (p .0)) (p .0 .count) (p .4))
 
 declined-requires : tie.Need-declined-requires
 declined-requires c κs = search needs
@@ -99,16 +110,12 @@ same-length-4 c = search needs
 returns-2 : tie.Need-returns-2
 unfolding decode moved
 returns-2 c =
-    let tried = c .before .before in
-    let a = tried .before .before .before .before .before .before .before .before .before .before .before .before .before .args in
-    let h = tried .before .before .before .before .before .before .before .before .before .before .before .before .before .pre in
-    let eh = tried .before .before .before .before .before .before .before .before .homes .ensures in
-    let ea = tried .before .before .before .before .before .before .before .aways .ensures in
-    let f = rw (c .before .if1 .left, eh, ea) at (tried .swap .ensures) in
-    rw (
-      c .declined .ensures,
-      exchange-fault-13 (decode (now (a .season))) (now (a .sheet)) (a .g) (a .h) (h .2) (h .3) (h .4) (h .5) (not-false _ (sym (f .no-clash))),
-    )
+    let t = c .before .before in
+    let n = t .before .before .before .before .before .before .before in
+    let a = n .before .before .before .before .before .before .args in
+    let p = n .before .before .before .before .before .before .pre in
+    let f = rw (c .before .if1 .left, n .before .homes .ensures, n .aways .ensures) at (t .swap .ensures) in
+    rw (c .declined .ensures, exchange-fault-13 (decode (now (a .season))) (now (a .sheet)) (a .g) (a .h) (p .1) (p .2) (p .3) (p .4) (not-false _ (sym (f .no-clash))))
 
 pub swap-spec : {M : Type 1} → statement M
 swap-spec =
@@ -123,6 +130,7 @@ swap-spec =
     move-of-requires-2
     slice-write-sheet
     slice-write-sheet-2
+    moves-requires
     rework-requires
     same-length
     same-length-2

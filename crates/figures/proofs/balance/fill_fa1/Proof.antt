@@ -1,8 +1,8 @@
 -- `figures::balance::fill_fa1` meets its contract. Assumes nothing.
 use mathlib.Core.Path.{refl, ap}
-use Rattle.robinx.specs.Kinds.{kindOf}
-use Rattle.figures.proofs.Ready.{places-of}
-use Rattle.figures.proofs.Running.{counting, teams-balance}
+use Rattle.robinx.specs.Kinds.{kindOf, formOf}
+use Rattle.figures.proofs.Ready.{given-t1, places-of}
+use Rattle.figures.proofs.Running.{teams-balance}
 use borrow.Author.Needs.{needs}
 use Rattle.figures.proofs.balance.fill_fa1.Statement.{statement}
 use Rattle.figures.proofs.balance.fill_fa1.Tie as tie
@@ -11,10 +11,10 @@ spread-requires : tie.Need-spread-requires
 spread-requires c κs = search needs
 
 fill-teams-requires : tie.Need-fill-teams-requires
-unfolding kindOf
+unfolding kindOf formOf
 fill-teams-requires c κs =
     let s = c .before .before .before .before .before .before in
-    (refl, places-of (s .pre .0) (ap kindOf (s .pre .1)), counting (s .pre .0))
+    (refl, places-of (s .pre .0) (ap kindOf (s .pre .1)), given-t1 (s .pre .0))
 
 same-length : tie.Need-same-length
 same-length c = search needs

@@ -1,8 +1,8 @@
 -- `figures::balance::fill_fa2` meets its contract. Assumes nothing.
 use mathlib.Core.Path.{refl, ap}
-use Rattle.robinx.specs.Kinds.{kindOf}
-use Rattle.figures.proofs.Ready.{limits, places-of}
-use Rattle.figures.proofs.Running.{counting, pairs-balance}
+use Rattle.robinx.specs.Kinds.{kindOf, formOf}
+use Rattle.figures.proofs.Ready.{limits, given-t1, places-of}
+use Rattle.figures.proofs.Running.{pairs-balance}
 use borrow.Author.Needs.{needs}
 use Rattle.figures.proofs.balance.fill_fa2.Statement.{statement}
 use Rattle.figures.proofs.balance.fill_fa2.Tie as tie
@@ -15,13 +15,14 @@ mode-sides-requires c κs = limits (c .before .before .before .pre .0) .mode-lea
 
 lay-teams-requires : tie.Need-lay-teams-requires
 lay-teams-requires c κs =
-    let s = c .before .before .before .before .before in (refl, counting (s .pre .0))
+    let s = c .before .before .before .before .before in (refl, given-t1 (s .pre .0))
 
 fill-pairs-requires : tie.Need-fill-pairs-requires
-unfolding kindOf
+unfolding kindOf formOf
 fill-pairs-requires c κs =
-    let s = c .before .before .before .before .before .before .before .before .before in
-    (s .pre .0 .teams, places-of (s .pre .0) (ap kindOf (s .pre .1)))
+    let laid = c .before .before .before in
+    let s = laid .before .before .before .before .before .before in
+    (s .pre .0 .teams, limits (s .pre .0) .t1, places-of (s .pre .0) (ap kindOf (s .pre .1)))
 
 same-length : tie.Need-same-length
 same-length c = search needs

@@ -1,68 +1,50 @@
--- `figures::balance::fill_pairs` meets its contract. Before each turn the pairs of members below i are in. Assumes nothing.
+-- `figures::balance::fill_pairs` meets its contract. Before each turn the pairs whose lower member is passed are in. Assumes nothing.
 use mathlib.Core.Path.{sym, _∙_}
-use Prim.Native.Nat.{_-_, _/_, _^_}
-use lib.Count.{trailingZeros}
-use Rattle.robinx.proofs.Filled.{FilledRows, rows-none, rows-done}
+use Prim.Native.Nat.{_-_}
 use Rattle.figures.specs.Running.{rowsApart}
-use Rattle.figures.proofs.Members.{Ahead, ahead-all, Next, next, rows-to-next, rows-to-end}
+use Rattle.groups.proofs.Walk.{RowsPassed, rows-start, rows-place, rows-turn, rows-end}
 use borrow.Author.Needs.{needs}
 use Rattle.figures.proofs.balance.fill_pairs.Statement.{statement}
 use Rattle.figures.proofs.balance.fill_pairs.Tie as tie
 
 abbrev Inv-loop : tie.InvT-loop
-Inv-loop group kmax n rows e out₀ at₀ i₀ rest₀ out at i rest =
-    Ahead n group i rest × FilledRows n group (rowsApart rows e kmax) i at out
+Inv-loop group kmax n rows e out₀ at₀ m₀ out at m = RowsPassed n group (rowsApart rows e kmax) m at out
 
 abbrev μ-loop : tie.MeasureT-loop
-μ-loop group kmax n rows e out₀ at₀ i₀ rest₀ out at i rest = n - i
+μ-loop group kmax n rows e out₀ at₀ m₀ out at m = n - m .at
 
-front-requires : tie.Need-front-requires Inv-loop μ-loop
-front-requires c κs = search needs
+of-requires : tie.Need-of-requires Inv-loop μ-loop
+of-requires c κs = search needs
 
 loop-holds : tie.Need-loop-holds Inv-loop μ-loop
-loop-holds c =
-    let s = c .before .before in
-    (rw (c .front .ensures) (ahead-all (s .args .n) (s .args .group)), rows-none (s .pre .1))
+loop-holds c = let s = c .before .before in rows-start (c .of .ensures) (s .pre .0) (s .pre .1) (s .pre .2)
 
--- the member of a turn
-member : (c : tie.In-loop Inv-loop μ-loop)
-    → let l = c .before .loop in
-    let a = c .before .before .before .before .args in
-    let z = trailingZeros 64 (l .rest) in
-    Next (a .n) (a .group) (l .i) z (l .rest / 2 ^ z / 2)
-member c = next (c .before .loop .inv .0) 64 (search needs) (c .loop-test .taken)
-
-cast-i : tie.Need-cast-i Inv-loop μ-loop
-cast-i c = let x = member c in search needs
-
-add-i : tie.Need-add-i Inv-loop μ-loop
-add-i c = let x = member c in search needs
+next-requires : tie.Need-next-requires Inv-loop μ-loop
+next-requires c κs = search needs
 
 fill-row-requires : tie.Need-fill-row-requires Inv-loop μ-loop
 fill-row-requires c κs =
-    let x = member (c .before) in
-    let l = c .before .before .loop in (search needs, x .room, x .member, rows-to-next (l .inv .1) x)
-
-cast-rest : tie.Need-cast-rest Inv-loop μ-loop
-cast-rest c = let x = member (c .before .before .before .before) in search needs
-
-shr-rest : tie.Need-shr-rest Inv-loop μ-loop
-shr-rest c = let x = member (c .before .before .before .before) in search needs
-
-add-i-2 : tie.Need-add-i-2 Inv-loop μ-loop
-add-i-2 c = let x = member (c .before .before .before .before) in search needs
+    let l = c .before .before .before .before in
+    let h = l .before .before .before .pre in
+    let x = c .before .next .ensures _ _ (l .loop .inv .ahead) in
+    (h .0, h .1, x .room, x .member, rows-place (l .loop .inv) (c .before .next .ensures))
 
 loop-less : tie.Need-loop-less Inv-loop μ-loop
-loop-less c = let x = member (c .before .before .before .before) in search needs
+loop-less c =
+    let n = c .before .before .before .before in
+    let l = n .before .before .before .loop in
+    let x = n .next .ensures _ _ (l .inv .ahead) in search needs
 
 loop-again : tie.Need-loop-again Inv-loop μ-loop
-loop-again c = let x = member (c .before .before .before .before) in (x .ahead, c .before .before .fill-row .ensures)
+loop-again c =
+    let n = c .before .before .before .before in
+    let l = n .before .before .before .loop in rows-turn (l .inv) (n .next .ensures) (c .before .before .fill-row .ensures)
 
 same-length : tie.Need-same-length Inv-loop μ-loop
-same-length c = c .before .loop .inv .1 .filled .long ∙ sym (c .before .before .before .before .pre .1)
+same-length c = c .before .before .loop .inv .filled .filled .long ∙ sym (c .before .before .before .before .before .pre .2)
 
 returns : tie.Need-returns Inv-loop μ-loop
-returns c = let l = c .before .loop in rows-done (rows-to-end (l .inv .1) (l .inv .0) (search needs))
+returns c = rows-end (c .before .before .loop .inv) (search needs)
 
 pub fill-pairs-spec : {M : Type 1} → statement M
 fill-pairs-spec =
@@ -70,14 +52,10 @@ fill-pairs-spec =
     (tie.spec
     Inv-loop
     μ-loop
-    front-requires
+    of-requires
     loop-holds
-    cast-i
-    add-i
+    next-requires
     fill-row-requires
-    cast-rest
-    shr-rest
-    add-i-2
     loop-less
     loop-again
     same-length

@@ -1,99 +1,57 @@
--- `figures::balance::fill_row` meets its contract. Before each turn the pairs with members below j are in. Assumes nothing.
+-- `figures::balance::fill_row` meets its contract. Before each turn the pairs with the members passed are in. Assumes nothing.
 use mathlib.Core.Path.{sym, _∙_}
-use Prim.Native.Nat.{_-_, _/_, _^_, _<_}
-use native.Mathlib.Omega.{arith}
-use lib.Count.{trailingZeros}
+use Prim.Native.Nat.{_-_, _<_}
 use lib.ListN.{length}
-use Rattle.robinx.proofs.Filled.{FilledRow, row-none, row-room, row-taken, row-done}
 use Rattle.figures.specs.Running.{rowsApart}
-use Rattle.figures.proofs.Members.{Ahead, ahead-of, Next, next, row-to-next, row-to-end}
+use Rattle.groups.proofs.Walk.{RowPassed, row-start, row-place, row-turn, row-end}
 use borrow.Author.Needs.{needs}
 use Rattle.figures.proofs.balance.fill_row.Statement.{statement}
 use Rattle.figures.proofs.balance.fill_row.Tie as tie
 
 abbrev Inv-loop : tie.InvT-loop
-Inv-loop group kmax n rows e i at out₀ next₀ j₀ rest₀ out next j rest =
-    Ahead n group j rest × (i < j) × FilledRow n group (rowsApart rows e kmax) i j next out
+Inv-loop group kmax n rows e i at out₀ next₀ m₀ out next m = RowPassed n group (rowsApart rows e kmax) i m next out
 
 abbrev μ-loop : tie.MeasureT-loop
-μ-loop group kmax n rows e i at out₀ next₀ j₀ rest₀ out next j rest = n - j
+μ-loop group kmax n rows e i at out₀ next₀ m₀ out next m = n - m .at
 
-add-j : tie.Need-add-j Inv-loop μ-loop
-add-j c = search needs
-
-front-requires : tie.Need-front-requires Inv-loop μ-loop
-front-requires c κs = search needs
-
-shr-rest : tie.Need-shr-rest Inv-loop μ-loop
-shr-rest c = search needs
+above-requires : tie.Need-above-requires Inv-loop μ-loop
+above-requires c κs = search needs
 
 loop-holds : tie.Need-loop-holds Inv-loop μ-loop
 loop-holds c =
     let s = c .before .before in
-    let a = s .args in
-    (rw (c .front .ensures) (ahead-of (a .n) (a .group) (a .i) (s .pre .1)), search needs, row-none (s .pre .3))
+    row-start (c .above .ensures) (s .pre .0) (s .pre .1) (s .pre .2) (s .pre .3) (s .pre .4)
 
--- the member of a turn
-member : (c : tie.In-loop Inv-loop μ-loop)
-    → let l = c .before .loop in
-    let a = c .before .before .before .before .args in
-    let z = trailingZeros 64 (l .rest) in
-    Next (a .n) (a .group) (l .j) z (l .rest / 2 ^ z / 2)
-member c = next (c .before .loop .inv .0) 64 (search needs) (c .loop-test .taken)
-
-cast-j : tie.Need-cast-j Inv-loop μ-loop
-cast-j c = let x = member c in search needs
-
-add-j-2 : tie.Need-add-j-2 Inv-loop μ-loop
-add-j-2 c = let x = member c in search needs
+next-requires : tie.Need-next-requires Inv-loop μ-loop
+next-requires c κs = search needs
 
 rows-apart-requires : tie.Need-rows-apart-requires Inv-loop μ-loop
-rows-apart-requires c κs = let x = member c in search needs
+rows-apart-requires c κs = let x = c .next .ensures _ _ (c .before .before .before .loop .inv .ahead) in search needs
 
 -- there is a place for the figure
-room : (c : tie.In-loop Inv-loop μ-loop) → c .before .loop .next < length (c .before .loop .out)
-room c =
-    let l = c .before .loop in
-    let h = c .before .before .before .before .pre in
-    let x = member c in
-    row-room (row-to-next (l .inv .2) x) (h .1) (omega arith) (x .room) (h .2) (x .member)
+room : (c : tie.After-rows-apart Inv-loop μ-loop) → let l = c .before .before .before .before .loop in l .next < length (l .out)
+room c = row-place (c .before .before .before .before .loop .inv) (c .before .next .ensures)
 
 mul-out : tie.Need-mul-out Inv-loop μ-loop
-mul-out c = let r = room (c .before) in search needs
+mul-out c = let r = room c in search needs
 
 slice-write-out : tie.Need-slice-write-out Inv-loop μ-loop
-slice-write-out c = room (c .before)
+slice-write-out c = room c
 
 add-next : tie.Need-add-next Inv-loop μ-loop
-add-next c = let r = room (c .before) in search needs
-
-cast-rest : tie.Need-cast-rest Inv-loop μ-loop
-cast-rest c = let x = member (c .before) in search needs
-
-shr-rest-2 : tie.Need-shr-rest-2 Inv-loop μ-loop
-shr-rest-2 c = let x = member (c .before) in search needs
-
-add-j-3 : tie.Need-add-j-3 Inv-loop μ-loop
-add-j-3 c = let x = member (c .before) in search needs
+add-next c = let r = room c in search needs
 
 loop-less : tie.Need-loop-less Inv-loop μ-loop
-loop-less c = let x = member (c .before) in search needs
+loop-less c = let x = c .before .next .ensures _ _ (c .before .before .before .before .loop .inv .ahead) in search needs
 
 loop-again : tie.Need-loop-again Inv-loop μ-loop
-loop-again c =
-    let l = c .before .before .loop in
-    let h = c .before .before .before .before .before .pre in
-    let x = member (c .before) in (
-      x .ahead,
-      search needs,
-      row-taken (row-to-next (l .inv .2) x) (h .1) (omega arith) (x .room) (h .2) (x .member) (c .rows-apart .ensures),
-    )
+loop-again c = row-turn (c .before .before .before .before .loop .inv) (c .before .next .ensures) (c .rows-apart .ensures)
 
 same-length : tie.Need-same-length Inv-loop μ-loop
-same-length c = c .before .loop .inv .2 .filled .long ∙ sym (c .before .before .before .before .pre .3 .filled .long)
+same-length c = c .before .before .loop .inv .filled .filled .long ∙ sym (c .before .before .before .before .before .pre .4 .filled .long)
 
 returns : tie.Need-returns Inv-loop μ-loop
-returns c = let l = c .before .loop in row-done (row-to-end (l .inv .2) (l .inv .0) (search needs))
+returns c = row-end (c .before .before .loop .inv) (search needs)
 
 pub fill-row-spec : {M : Type 1} → statement M
 fill-row-spec =
@@ -101,19 +59,13 @@ fill-row-spec =
     (tie.spec
     Inv-loop
     μ-loop
-    add-j
-    front-requires
-    shr-rest
+    above-requires
     loop-holds
-    cast-j
-    add-j-2
+    next-requires
     rows-apart-requires
     mul-out
     slice-write-out
     add-next
-    cast-rest
-    shr-rest-2
-    add-j-3
     loop-less
     loop-again
     same-length

@@ -1,6 +1,6 @@
 -- `figures::balance::imbalance` meets its contract. Assumes nothing.
 use denote.Ref.{now}
-use mathlib.Core.Path.{_≡_, _∙_}
+use mathlib.Core.Path.{_∙_}
 use Rattle.robinx.specs.Timetable.{homeSide, awaySide}
 use Rattle.timetable.specs.Tables.{xOf}
 use Rattle.figures.specs.Running.{running}

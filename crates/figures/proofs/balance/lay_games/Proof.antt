@@ -1,7 +1,8 @@
 -- `figures::balance::lay_games` meets its contract. Assumes nothing.
 use denote.Ref.{now}
-use mathlib.Core.Path.{_≡_, _∙_}
+use mathlib.Core.Path.{_∙_}
 use Prim.Native.Nat.{_*_}
+use Rattle.robinx.specs.Season.{mostSlots}
 use Rattle.timetable.specs.Tables.{xOf}
 use Rattle.masks.proofs.Rows.{laidAt-ext}
 use Rattle.figures.proofs.Running.{running-of}
@@ -22,7 +23,7 @@ returns : tie.Need-returns
 returns c =
     let a = c .before .before .before .args in
     c .lay-at .ensures
-    ∙ laidAt-ext (now (a .rows)) (a .r * 64) 64
+    ∙ laidAt-ext (now (a .rows)) (a .r * mostSlots) mostSlots
     (running-of (a .n) (xOf (now (a .meets))) (a .sides) (a .group) (a .t) (c .before .before .against .result) (c .before .before .against .ensures))
 
 pub lay-games-spec : {M : Type 1} → statement M

@@ -1,6 +1,7 @@
 -- `breaks::breaks_if` meets its contract. Assumes nothing.
 use native.Mathlib.Nat.{le-trans, le-of-eq}
 use borrow.Author.Needs.{needs}
+use Rattle.robinx.specs.Season.{mostSlots}
 use Rattle.masks.specs.Masks.{isBreak}
 use Rattle.figures.proofs.TeamBreaks.{over-le}
 use Rattle.figures.proofs.breaks.breaks_if.Statement.{statement}
@@ -13,7 +14,7 @@ returns : tie.Need-returns
 returns c =
     let a = c .before .before .args in
     let e = c .breaks-in .ensures in
-    (rw (c .before .if1 .taken) e, le-trans (le-of-eq e) (over-le 64 (a .s) (isBreak (a .side) (a .all))))
+    (rw (c .before .if1 .taken) e, le-trans (le-of-eq e) (over-le mostSlots (a .s) (isBreak (a .side) (a .all))))
 
 returns-2 : tie.Need-returns-2
 returns-2 c = search needs

@@ -4,14 +4,14 @@ use mathlib.Core.Path.{_≡_}
 use native.Mathlib.Omega.{arith}
 use borrow.Author.Needs.{needs}
 use lib.ListN.{length}
-use Rattle.robinx.specs.Kinds.{kindOf}
+use Rattle.robinx.specs.Kinds.{kindOf, formOf, formAt}
 use Rattle.robinx.specs.Deviations.{devBR2, entries}
 use Rattle.robinx.proofs.Filled.{filled-one}
 use Rattle.figures.proofs.breaks.fill_all_breaks.Statement.{statement}
 use Rattle.figures.proofs.breaks.fill_all_breaks.Tie as tie
 
 one-place : (c : tie.Start) → length (now (c .args .out)) ≡ 1
-unfolding entries kindOf
+unfolding entries kindOf formOf formAt
 one-place c = rw (c .pre .1) at (c .pre .0 .places)
 
 group-breaks-requires : tie.Need-group-breaks-requires

@@ -1,71 +1,51 @@
--- `breaks::group_breaks` meets its contract: before each turn the breaks of the teams below t are summed. Assumes nothing.
-use denote.Ref.{now}
-use mathlib.Core.Path.{_≡_, refl}
-use Prim.Native.Nat.{_-_, _*_, _/_, _^_, _≤_}
-use borrow.Author.Needs.{needs}
-use lib.Count.{trailingZeros}
-use Rattle.robinx.specs.Sums.{sumTo, only}
-use Rattle.robinx.specs.Groups.{has}
+-- `breaks::group_breaks` meets its contract: before each turn the breaks of the teams passed are summed. Assumes nothing.
+use Prim.Native.Nat.{_-_, _*_, _≤_}
+use Rattle.robinx.specs.Season.{mostSlots}
 use Rattle.robinx.specs.Deviations.{breaks}
 use Rattle.robinx.proofs.Limits.{obeyed}
 use Rattle.timetable.specs.Tables.{xOf}
-use Rattle.figures.proofs.Members.{Ahead, ahead-group, Next, next, sum-more, sum-to-end}
+use Rattle.groups.proofs.Walk.{SumPassed, sum-start, sum-turn, sum-end}
+use borrow.Author.Needs.{needs}
 use Rattle.figures.proofs.breaks.group_breaks.Statement.{statement}
 use Rattle.figures.proofs.breaks.group_breaks.Tie as tie
 
 abbrev Inv-loop : tie.InvT-loop
-Inv-loop c n p home away meets v₀ t₀ rest₀ v t rest =
-    Ahead n (c .t1) t rest × (v ≤ 128 * t) × (v ≡ sumTo (λ k. only (has (c .t1) k) (breaks n p c (xOf meets) k)) t)
+Inv-loop c n p home away meets v₀ m₀ v m =
+    SumPassed n (c .t1) (breaks n p c (xOf meets)) m v × (v ≤ 2 * mostSlots * m .at)
 
 abbrev μ-loop : tie.MeasureT-loop
-μ-loop c n p home away meets v₀ t₀ rest₀ v t rest = n - t
+μ-loop c n p home away meets v₀ m₀ v m = n - m .at
+
+of-requires : tie.Need-of-requires Inv-loop μ-loop
+of-requires c κs = search needs
 
 loop-holds : tie.Need-loop-holds Inv-loop μ-loop
-unfolding sumTo
 loop-holds c =
-    let a = c .args in (ahead-group (a .n) (a .c .t1) (obeyed (a .n) (a .p) (a .c) (c .pre .2) .t1), search needs, refl)
+    let s = c .before in
+    let a = s .args in
+    (sum-start (c .of .ensures) (s .pre .0) (obeyed (a .n) (a .p) (a .c) (s .pre .2) .t1), search needs)
 
--- the team of a turn
-team : (c : tie.In-loop Inv-loop μ-loop)
-    → let l = c .before .loop in
-    let a = c .before .before .args in
-    let z = trailingZeros 32 (l .rest) in
-    Next (a .n) (a .c .t1) (l .t) z (l .rest / 2 ^ z / 2)
-team c = next (c .before .loop .inv .0) 32 (search needs) (c .loop-test .taken)
-
-cast-t : tie.Need-cast-t Inv-loop μ-loop
-cast-t c = let x = team c in search needs
-
-add-t : tie.Need-add-t Inv-loop μ-loop
-add-t c = let x = team c in search needs
+next-requires : tie.Need-next-requires Inv-loop μ-loop
+next-requires c κs = search needs
 
 team-breaks-requires : tie.Need-team-breaks-requires Inv-loop μ-loop
-team-breaks-requires c κs = let h = c .before .before .pre in (h .0, h .1, team c .room, h .2, h .3)
+team-breaks-requires c κs =
+    let h = c .before .before .before .before .before .pre in (h .0, h .1, c .next .ensures _ _ (c .before .before .before .loop .inv .0 .ahead) .room, h .2, h .3)
 
 add-v : tie.Need-add-v Inv-loop μ-loop
-add-v c = let x = team (c .before) in search needs
-
-shr-rest : tie.Need-shr-rest Inv-loop μ-loop
-shr-rest c = let x = team (c .before) in search needs
-
-add-t-2 : tie.Need-add-t-2 Inv-loop μ-loop
-add-t-2 c = let x = team (c .before) in search needs
+add-v c = let x = c .before .next .ensures _ _ (c .before .before .before .before .loop .inv .0 .ahead) in search needs
 
 loop-less : tie.Need-loop-less Inv-loop μ-loop
-loop-less c = let x = team (c .before) in search needs
+loop-less c = let x = c .before .next .ensures _ _ (c .before .before .before .before .loop .inv .0 .ahead) in search needs
 
 loop-again : tie.Need-loop-again Inv-loop μ-loop
 loop-again c =
-    let l = c .before .before .loop in
-    let a = c .before .before .before .args in
-    let x = team (c .before) in
-    (x .ahead, search needs, sum-more (a .c .t1) (breaks (a .n) (a .p) (a .c) (xOf (now (a .meets)))) (l .inv .2) x (c .team-breaks .ensures .0))
+    let l = c .before .before .before .before .loop in
+    let x = c .before .next .ensures _ _ (l .inv .0 .ahead) in
+    (sum-turn (l .inv .0) (c .before .next .ensures) (c .team-breaks .ensures .0), search needs)
 
 returns : tie.Need-returns Inv-loop μ-loop
-returns c =
-    let l = c .before .loop in
-    let a = c .before .before .args in
-    sum-to-end (a .c .t1) (breaks (a .n) (a .p) (a .c) (xOf (now (a .meets)))) (l .inv .2) (l .inv .0) (search needs)
+returns c = sum-end (c .before .before .loop .inv .0) (search needs)
 
 pub group-breaks-spec : {M : Type 1} → statement M
 group-breaks-spec =
@@ -73,13 +53,11 @@ group-breaks-spec =
     (tie.spec
     Inv-loop
     μ-loop
+    of-requires
     loop-holds
-    cast-t
-    add-t
+    next-requires
     team-breaks-requires
     add-v
-    shr-rest
-    add-t-2
     loop-less
     loop-again
     returns)

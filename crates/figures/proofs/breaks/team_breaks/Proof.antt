@@ -50,15 +50,16 @@ add-result c = search needs
 
 returns : tie.Need-returns
 returns c =
-    let s = c .before .before .before .before .before .before .before .before in
+    let all = c .before .before .before .before in
+    let s = all .before .before .before .before in
     let a = s .args in (
       rw (
         c .before .before .breaks-if .ensures .0,
         c .breaks-if2 .ensures .0,
         c .before .before .before .asks-home .ensures,
         c .before .asks-away .ensures,
-        c .before .before .before .before .union .ensures,
-        c .before .before .before .before .before .mode-sides .ensures,
+        all .union .ensures,
+        all .before .mode-sides .ensures,
       )
           (team-breaks (s .pre .4) (a .t) (s .pre .2) (a .p) (a .c) (s .pre .1) (rules s .s)),
       search needs,

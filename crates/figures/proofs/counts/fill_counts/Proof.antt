@@ -1,105 +1,87 @@
--- `counts::fill_counts` meets its contract: before each turn the figures of the teams below t are in. Assumes nothing.
+-- `counts::fill_counts` meets its contract: before each turn the figures of the teams passed are in. Assumes nothing.
 use denote.Ref.{now}
-use mathlib.Core.Path.{_≡_, refl, sym, _∙_}
-use Prim.Native.Nat.{_-_, _/_, _^_, _<_}
-use native.Mathlib.Omega.{arith}
-use lib.Count.{trailingZeros}
+use mathlib.Core.Path.{_≡_, sym, ap, _∙_}
+use Prim.Native.Nat.{_-_, _<_}
 use lib.ListN.{length}
-use borrow.Author.Needs.{needs}
+use Rattle.robinx.specs.Season.{mostTeams}
 use Rattle.robinx.specs.Groups.{size}
-use Rattle.robinx.proofs.Filled.{FilledEach, each-none, each-room, each-taken, each-done}
-use Rattle.robinx.proofs.Sizes.{size-le}
+use Rattle.robinx.specs.Deviations.{outside}
 use Rattle.timetable.specs.Tables.{xOf}
-use Rattle.figures.specs.Games.{FromZero, teamFigure}
-use Rattle.figures.proofs.Ready.{limits}
-use Rattle.figures.proofs.TeamFigures.{team-figures, a-place-a-team}
-use Rattle.figures.proofs.Members.{Ahead, ahead-group, Next, next, each-to-next, each-to-end}
+use Rattle.figures.specs.Games.{counted, offCount}
+use Rattle.figures.proofs.Ready.{limits, given-t2}
+use Rattle.figures.proofs.TeamFigures.{count-games, count-figures, a-place-a-team}
+use Rattle.groups.proofs.Walk.{EachPassed, each-start, each-place, each-few, each-turn, each-end}
+use borrow.Author.Needs.{needs}
 use Rattle.figures.proofs.counts.fill_counts.Statement.{statement}
 use Rattle.figures.proofs.counts.fill_counts.Tie as tie
 
 abbrev Inv-loop : tie.InvT-loop
-Inv-loop c n p home away meets out₀ rows₀ e₀ t₀ rest₀ out rows e t rest =
-    Ahead n (c .t1) t rest × FromZero rows × FilledEach n (c .t1) (teamFigure n p c (xOf meets)) t e out
+Inv-loop c n p home away meets out₀ e₀ m₀ out e m = EachPassed n (c .t1) (λ t. offCount p c (counted n c (xOf meets) t)) m e out
 
 abbrev μ-loop : tie.MeasureT-loop
-μ-loop c n p home away meets out₀ rows₀ e₀ t₀ rest₀ out rows e t rest = n - t
+μ-loop c n p home away meets out₀ e₀ m₀ out e m = n - m .at
 
 places : (c : tie.Start Inv-loop μ-loop) → length (now (c .args .out)) ≡ size (c .args .n) (c .args .c .t1)
 places c =
     let a = c .args in
-    c .pre .0 .places ∙ a-place-a-team (a .n) (a .p) (a .c) (xOf (now (a .meets))) (c .pre .1) (c .pre .2)
+    let x = xOf (now (a .meets)) in
+    c .pre .0 .places ∙ a-place-a-team (a .n) (a .p) (a .c) x _ (count-figures (a .n) (a .p) (a .c) x (c .pre .1) (c .pre .2))
+
+of-requires : tie.Need-of-requires Inv-loop μ-loop
+of-requires c κs = search needs
 
 loop-holds : tie.Need-loop-holds Inv-loop μ-loop
 loop-holds c =
-    let s = c .before in (
-      ahead-group (s .args .n) (s .args .c .t1) (limits (s .pre .0) .t1),
-      record { long = refl; first = refl },
-      each-none (places s),
-    )
+    let s = c .before .before in
+    let r = s .pre .0 in each-start (c .of .ensures) (r .teams) (limits r .t1) (places s)
 
--- the team of a turn
-team : (c : tie.In-loop Inv-loop μ-loop)
-    → let l = c .before .loop in
-    let a = c .before .before .before .args in
-    let z = trailingZeros 32 (l .rest) in
-    Next (a .n) (a .c .t1) (l .t) z (l .rest / 2 ^ z / 2)
-team c = next (c .before .loop .inv .0) 32 (c .before .before .before .pre .0 .teams) (c .loop-test .taken)
+next-requires : tie.Need-next-requires Inv-loop μ-loop
+next-requires c κs = search needs
 
-cast-t : tie.Need-cast-t Inv-loop μ-loop
-cast-t c = let x = team c in search needs
+counted-requires : tie.Need-counted-requires Inv-loop μ-loop
+counted-requires c κs =
+    let l = c .before .before .before in
+    let r = l .before .before .before .pre .0 in (c .next .ensures _ _ (l .loop .inv .ahead) .room, limits r .mode-least, given-t2 r)
 
-add-t : tie.Need-add-t Inv-loop μ-loop
-add-t c = let x = team c in search needs
+count-in-requires : tie.Need-count-in-requires Inv-loop μ-loop
+count-in-requires c κs = search needs
 
-figure-of-requires : tie.Need-figure-of-requires Inv-loop μ-loop
-figure-of-requires c κs =
-    let l = c .before .before in
-    let r = l .before .before .pre .0 in (r .teams, r .slots, team (c .before) .room, r .rules, r .tied, l .loop .inv .1)
+outside-requires : tie.Need-outside-requires Inv-loop μ-loop
+outside-requires c κs = search needs
 
-room : (c : tie.In-loop Inv-loop μ-loop) → c .before .loop .e < length (c .before .loop .out)
-room c = let x = team c in each-room (each-to-next (c .before .loop .inv .2) x) (x .room) (x .member)
-
-small : (c : tie.In-loop Inv-loop μ-loop) → c .before .loop .e < 32
-small c =
-    let s = c .before .before .before in
-    omega (arith, room c, c .before .loop .inv .2 .filled .long, size-le (s .args .c .t1) (s .args .n), s .pre .0 .teams)
+few : (c : tie.After-outside Inv-loop μ-loop) → c .before .before .before .before .before .before .loop .e < mostTeams
+few c = each-few (c .before .before .before .before .before .before .loop .inv) (c .before .before .before .next .ensures)
 
 mul-out : tie.Need-mul-out Inv-loop μ-loop
-mul-out c = let e = small (c .before .before) in search needs
+mul-out c = let r = few c in search needs
 
 slice-write-out : tie.Need-slice-write-out Inv-loop μ-loop
-slice-write-out c = room (c .before .before)
+slice-write-out c = each-place (c .before .before .before .before .before .before .loop .inv) (c .before .before .before .next .ensures)
 
 add-e : tie.Need-add-e Inv-loop μ-loop
-add-e c = let e = small (c .before .before) in search needs
-
-shr-rest : tie.Need-shr-rest Inv-loop μ-loop
-shr-rest c = let x = team (c .before .before) in search needs
-
-add-t-2 : tie.Need-add-t-2 Inv-loop μ-loop
-add-t-2 c = let x = team (c .before .before) in search needs
+add-e c = let r = few c in search needs
 
 loop-less : tie.Need-loop-less Inv-loop μ-loop
-loop-less c = let x = team (c .before .before) in search needs
+loop-less c = let x = c .before .before .before .next .ensures _ _ (c .before .before .before .before .before .before .loop .inv .ahead) in search needs
 
 loop-again : tie.Need-loop-again Inv-loop μ-loop
 loop-again c =
-    let x = team (c .before .before) in (
-      x .ahead,
-      c .figure-of .ensures .1,
-      each-taken (each-to-next (c .before .before .before .loop .inv .2) x) (x .room) (x .member) (c .figure-of .ensures .0),
-    )
+    let l = c .before .before .before .before .before .before in
+    let s = l .before .before .before in
+    let a = s .args in
+    let mask = c .before .before .counted in
+    each-turn (l .loop .inv) (c .before .before .before .next .ensures)
+    (c .outside .ensures ∙ ap (outside (a .c .kmin) (a .c .kmax)) (c .before .count-in .ensures)
+    ∙ count-games (a .p) (a .c) (mask .result) (s .pre .0 .slots) (limits (s .pre .0) .s) (mask .ensures))
 
 same-length : tie.Need-same-length Inv-loop μ-loop
-same-length c = c .before .loop .inv .2 .filled .long ∙ sym (places (c .before .before .before))
+same-length c = c .before .before .loop .inv .filled .filled .long ∙ sym (places (c .before .before .before .before .before))
 
 returns : tie.Need-returns Inv-loop μ-loop
 returns c =
-    let s = c .before .before .before in
+    let s = c .before .before .before .before .before in
     let a = s .args in
-    let l = c .before .loop in
-    each-done (each-to-end (l .inv .2) (l .inv .0) (search needs))
-    ∙ team-figures (a .n) (a .p) (a .c) (xOf (now (a .meets))) (s .pre .1) (s .pre .2)
+    each-end (c .before .before .loop .inv) (search needs) ∙ count-figures (a .n) (a .p) (a .c) (xOf (now (a .meets))) (s .pre .1) (s .pre .2)
 
 pub fill-counts-spec : {M : Type 1} → statement M
 fill-counts-spec =
@@ -107,15 +89,15 @@ fill-counts-spec =
     (tie.spec
     Inv-loop
     μ-loop
+    of-requires
     loop-holds
-    cast-t
-    add-t
-    figure-of-requires
+    next-requires
+    counted-requires
+    count-in-requires
+    outside-requires
     mul-out
     slice-write-out
     add-e
-    shr-rest
-    add-t-2
     loop-less
     loop-again
     same-length

@@ -1,9 +1,9 @@
 -- `opponents::against` meets its contract. Assumes nothing.
 use denote.Ref.{now}
 use mathlib.Core.Path.{_∙_}
-use borrow.Author.Needs.{needs}
 use Rattle.timetable.specs.Tables.{xOf}
 use Rattle.figures.proofs.Games.{sides-mask, union-mask, against-all}
+use borrow.Author.Needs.{needs}
 use Rattle.figures.proofs.opponents.against.Statement.{statement}
 use Rattle.figures.proofs.opponents.against.Tie as tie
 
@@ -17,8 +17,9 @@ returns : tie.Need-returns
 returns c k l =
     let s = c .before .before .before in
     let a = s .args in
-    rw (c .played .ensures, against-all (a .n) (xOf (now (a .meets))) (a .sides) (a .t) (a .group) k (c .before .if1 .taken ∙ c .before .before .everyone .ensures))
-    (sides-mask (s .pre .3) (a .sides) (a .t) (s .pre .1) k l)
+    let everyone = c .before .if1 .taken ∙ c .before .before .everyone .ensures in
+    rw (c .played .ensures, against-all (a .n) (xOf (now (a .meets))) (a .sides) (a .t) (a .group) k everyone)
+    (sides-mask (s .pre .1 .tied) (a .sides) (a .t) (s .pre .0) k l)
 
 asks-home-requires : tie.Need-asks-home-requires
 asks-home-requires c κs = search needs
@@ -35,13 +36,19 @@ asks-away-requires c κs = search needs
 gather-if-requires-2 : tie.Need-gather-if-requires-2
 gather-if-requires-2 c κs = search needs
 
+union-requires : tie.Need-union-requires
+union-requires c κs = search needs
+
 returns-2 : tie.Need-returns-2
 returns-2 c =
-    let hosted = c .before .before in
+    let away = c .before in
+    let hosted = away .before .before in
     let s = hosted .before .before .before .before in
     let a = s .args in
-    union-mask (s .pre .3) (a .sides) (a .t) (s .pre .1) (a .group) (hosted .gather-if .result) (c .gather-if2 .result) (s .pre .0) (s .pre .2)
-    (hosted .before .asks-home .ensures) (c .before .asks-away .ensures) (hosted .gather-if .ensures) (c .gather-if2 .ensures)
+    let g = s .pre .1 in
+    rw (c .union .ensures)
+    (union-mask (g .tied) (a .sides) (a .t) (s .pre .0) (a .group) (hosted .gather-if .result) (away .gather-if2 .result) (g .teams) (g .group)
+    (hosted .before .asks-home .ensures) (away .before .asks-away .ensures) (hosted .gather-if .ensures) (away .gather-if2 .ensures))
 
 pub against-spec : {M : Type 1} → statement M
 against-spec =
@@ -55,4 +62,5 @@ against-spec =
     gather-if-requires
     asks-away-requires
     gather-if-requires-2
+    union-requires
     returns-2)

@@ -1,60 +1,58 @@
--- `opponents::gather` meets its contract: before each turn u is the union of the members that had theirs. Assumes nothing.
-use denote.Ref.{now}
-use Prim.Native.Nat.{_+_, _*_, _<_, _≤_}
+-- `opponents::gather` meets its contract: before each turn u is the union of the words of the members passed. Assumes nothing.
+use Prim.Native.Nat.{_-_, _*_, _≤_}
 use native.Mathlib.Omega.{arith}
-use lib.Count.{trailingZeros}
-use lib.Pow.{shr-le}
+use native.Mathlib.Nat.{mul-le-mul-right}
+use Rattle.robinx.specs.Season.{mostTeams}
+use Rattle.figures.proofs.Gathered.{UnionPassed, union-start, union-turn, union-end}
 use borrow.Author.Needs.{needs}
-use Rattle.figures.proofs.Gathered.{Gathered, gathered-none, gathered-room, gathered-more, gathered-all}
 use Rattle.figures.proofs.opponents.gather.Statement.{statement}
 use Rattle.figures.proofs.opponents.gather.Tie as tie
 
 abbrev Inv-loop : tie.InvT-loop
-Inv-loop meets group base step u₀ at₀ rest₀ u at rest = Gathered meets group base step u at rest
+Inv-loop meets group base step u₀ m₀ u m = UnionPassed meets group base step m u
 
 abbrev μ-loop : tie.MeasureT-loop
-μ-loop meets group base step u₀ at₀ rest₀ u at rest = rest
+μ-loop meets group base step u₀ m₀ u m = mostTeams - m .at
+
+of-requires : tie.Need-of-requires Inv-loop μ-loop
+of-requires c κs = search needs
 
 loop-holds : tie.Need-loop-holds Inv-loop μ-loop
-loop-holds c = gathered-none (now (c .args .meets)) (c .args .group) (c .args .base) (c .args .step) (search needs)
+loop-holds c = union-start (c .of .ensures) (search needs)
 
--- the next member's word is in the table
-room : (c : tie.In-loop Inv-loop μ-loop)
-    → let l = c .before .loop in
-    let z = trailingZeros 32 (l .rest) in
-    let a = c .before .before .args in
-    (z < 32) × (l .at + z * a .step ≤ a .base + 31 * a .step)
-room c = gathered-room (c .before .loop .inv) (c .loop-test .taken)
+next-requires : tie.Need-next-requires Inv-loop μ-loop
+next-requires c κs = search needs
 
-cast-at : tie.Need-cast-at Inv-loop μ-loop
-cast-at c = let r = room c in search needs
+-- the member's word is in the table
+word : (c : tie.After-next Inv-loop μ-loop)
+    → let a = c .before .before .before .before .before .args in c .next .result .team * a .step ≤ (mostTeams - 1) * a .step
+word c =
+    let x = c .next .ensures _ _ (c .before .before .before .loop .inv .ahead) in
+    mul-le-mul-right (c .before .before .before .before .before .args .step) (omega arith)
 
-mul-at : tie.Need-mul-at Inv-loop μ-loop
-mul-at c = let r = room c in search needs
+mul-union : tie.Need-mul-union Inv-loop μ-loop
+mul-union c = let w = word (c .before) in search needs
 
-add-at : tie.Need-add-at Inv-loop μ-loop
-add-at c = let r = room c in search needs
+add-union : tie.Need-add-union Inv-loop μ-loop
+add-union c = let w = word (c .before) in search needs
 
-mul-u : tie.Need-mul-u Inv-loop μ-loop
-mul-u c = let r = room c in search needs
+mul-union-2 : tie.Need-mul-union-2 Inv-loop μ-loop
+mul-union-2 c = let w = word (c .before) in search needs
 
-element-copy-out-u : tie.Need-element-copy-out-u Inv-loop μ-loop
-element-copy-out-u c = let r = room c in search needs
+element-copy-out-union : tie.Need-element-copy-out-union Inv-loop μ-loop
+element-copy-out-union c = let w = word (c .before) in search needs
 
-shr-rest : tie.Need-shr-rest Inv-loop μ-loop
-shr-rest c = let r = room (c .before) in search needs
-
-add-at-2 : tie.Need-add-at-2 Inv-loop μ-loop
-add-at-2 c = let r = room (c .before) in search needs
+union-requires : tie.Need-union-requires Inv-loop μ-loop
+union-requires c κs = search needs
 
 loop-less : tie.Need-loop-less Inv-loop μ-loop
-loop-less c = let l = c .before .before .loop in omega (arith, shr-le (l .rest) (trailingZeros 32 (l .rest)))
+loop-less c = let x = c .before .before .before .next .ensures _ _ (c .before .before .before .before .before .before .loop .inv .ahead) in search needs
 
 loop-again : tie.Need-loop-again Inv-loop μ-loop
-loop-again c = gathered-more (c .before .before .loop .inv) (c .before .loop-test .taken)
+loop-again c = rw (c .union .ensures) (union-turn (c .before .before .before .before .before .before .loop .inv) (c .before .before .before .next .ensures))
 
 returns : tie.Need-returns Inv-loop μ-loop
-returns c = gathered-all (c .before .loop .inv) (search needs)
+returns c = union-end (c .before .before .loop .inv) (search needs)
 
 pub gather-spec : {M : Type 1} → statement M
 gather-spec =
@@ -62,14 +60,14 @@ gather-spec =
     (tie.spec
     Inv-loop
     μ-loop
+    of-requires
     loop-holds
-    cast-at
-    mul-at
-    add-at
-    mul-u
-    element-copy-out-u
-    shr-rest
-    add-at-2
+    next-requires
+    mul-union
+    add-union
+    mul-union-2
+    element-copy-out-union
+    union-requires
     loop-less
     loop-again
     returns)

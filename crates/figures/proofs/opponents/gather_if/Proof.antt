@@ -1,6 +1,6 @@
 -- `opponents::gather_if` meets its contract. Assumes nothing.
 use borrow.Author.Needs.{needs}
-use Rattle.masks.proofs.Bits.{none-bit}
+use Rattle.robinx.proofs.Bits.{none-bit}
 use Rattle.figures.proofs.opponents.gather_if.Statement.{statement}
 use Rattle.figures.proofs.opponents.gather_if.Tie as tie
 

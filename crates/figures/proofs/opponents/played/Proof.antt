@@ -27,10 +27,20 @@ element-copy-out-only-if-2 c = search needs
 only-if-requires-2 : tie.Need-only-if-requires-2
 only-if-requires-2 c κs = search needs
 
+union-requires : tie.Need-union-requires
+union-requires c κs = search needs
+
 returns : tie.Need-returns
 returns c =
-    let home = c .before .before .before in
-    rw (← home .before .before .asks-home .ensures, ← c .before .before .asks-away .ensures, ← home .only-if .ensures, ← c .only-if2 .ensures)
+    let away = c .before in
+    let home = away .before .before .before in
+    rw (
+      c .union .ensures,
+      ← home .before .before .asks-home .ensures,
+      ← away .before .before .asks-away .ensures,
+      ← home .only-if .ensures,
+      ← away .only-if2 .ensures,
+    )
 
 pub played-spec : {M : Type 1} → statement M
 played-spec =
@@ -44,4 +54,5 @@ played-spec =
     mul-only-if-2
     element-copy-out-only-if-2
     only-if-requires-2
+    union-requires
     returns)

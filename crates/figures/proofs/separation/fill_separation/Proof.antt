@@ -1,75 +1,64 @@
--- `separation::fill_separation` meets its contract. Before each turn the pairs of members below i are in. Assumes nothing.
-use mathlib.Core.Path.{sym, _∙_}
-use Prim.Native.Nat.{_-_, _/_, _^_}
-use borrow.Author.Needs.{needs}
-use lib.Count.{trailingZeros}
+-- `separation::fill_separation` meets its contract. Before each turn the pairs whose lower member is passed are in. Assumes nothing.
+use denote.Ref.{now}
+use mathlib.Core.Path.{_≡_, sym, ap, _∙_}
+use Prim.Native.Nat.{_-_}
+use lib.ListN.{length}
+use Rattle.robinx.specs.Groups.{pairs}
+use Rattle.robinx.specs.Kinds.{kindOf, formOf}
 use Rattle.robinx.specs.Deviations.{devSE1}
-use Rattle.robinx.proofs.Filled.{FilledRows, rows-none, rows-done}
 use Rattle.timetable.specs.Tables.{xOf}
 use Rattle.figures.specs.Pairs.{closeness}
-use Rattle.figures.proofs.Members.{Ahead, ahead-all, Next, next, rows-to-next, rows-to-end}
+use Rattle.figures.proofs.Ready.{limits, places-of}
+use Rattle.groups.proofs.Walk.{RowsPassed, rows-start, rows-place, rows-turn, rows-end}
+use borrow.Author.Needs.{needs}
 use Rattle.figures.proofs.separation.fill_separation.Statement.{statement}
 use Rattle.figures.proofs.separation.fill_separation.Tie as tie
 
 abbrev Inv-loop : tie.InvT-loop
-Inv-loop c n p meets out₀ at₀ i₀ rest₀ out at i rest =
-    Ahead n (c .t1) i rest × FilledRows n (c .t1) (closeness (xOf meets) (c .w) p) i at out
+Inv-loop c n p home away meets out₀ at₀ m₀ out at m = RowsPassed n (c .t1) (closeness (xOf meets) (c .w) p) m at out
 
 abbrev μ-loop : tie.MeasureT-loop
-μ-loop c n p meets out₀ at₀ i₀ rest₀ out at i rest = n - i
+μ-loop c n p home away meets out₀ at₀ m₀ out at m = n - m .at
 
-cast-front : tie.Need-cast-front Inv-loop μ-loop
-cast-front c = search needs
+places : (c : tie.Start Inv-loop μ-loop) → length (now (c .args .out)) ≡ pairs (c .args .n) (c .args .c .t1)
+unfolding kindOf formOf
+places c = places-of (c .pre .0) (ap kindOf (c .pre .1))
 
-front-requires : tie.Need-front-requires Inv-loop μ-loop
-front-requires c κs = search needs
+of-requires : tie.Need-of-requires Inv-loop μ-loop
+of-requires c κs = search needs
 
 loop-holds : tie.Need-loop-holds Inv-loop μ-loop
 loop-holds c =
-    let s = c .before .before .before in
-    (rw (c .front .ensures) (ahead-all (s .args .n) (s .args .c .t1)), rows-none (s .pre .2))
+    let s = c .before .before in
+    let r = s .pre .0 in rows-start (c .of .ensures) (r .teams) (limits r .t1) (places s)
 
--- the member of a turn
-member : (c : tie.In-loop Inv-loop μ-loop)
-    → let l = c .before .loop in
-    let a = c .before .before .before .before .before .args in
-    let z = trailingZeros 64 (l .rest) in
-    Next (a .n) (a .c .t1) (l .i) z (l .rest / 2 ^ z / 2)
-member c = next (c .before .loop .inv .0) 64 (search needs) (c .loop-test .taken)
-
-cast-i : tie.Need-cast-i Inv-loop μ-loop
-cast-i c = let x = member c in search needs
-
-add-i : tie.Need-add-i Inv-loop μ-loop
-add-i c = let x = member c in search needs
+next-requires : tie.Need-next-requires Inv-loop μ-loop
+next-requires c κs = search needs
 
 fill-row-requires : tie.Need-fill-row-requires Inv-loop μ-loop
 fill-row-requires c κs =
-    let x = member (c .before) in
-    let l = c .before .before .loop in
-    (search needs, search needs, x .room, x .member, rows-to-next (l .inv .1) x)
-
-cast-rest : tie.Need-cast-rest Inv-loop μ-loop
-cast-rest c = let x = member (c .before .before .before .before) in search needs
-
-shr-rest : tie.Need-shr-rest Inv-loop μ-loop
-shr-rest c = let x = member (c .before .before .before .before) in search needs
-
-add-i-2 : tie.Need-add-i-2 Inv-loop μ-loop
-add-i-2 c = let x = member (c .before .before .before .before) in search needs
+    let l = c .before .before .before .before in
+    let r = l .before .before .before .pre .0 in
+    let x = c .before .next .ensures _ _ (l .loop .inv .ahead) in
+    (r .teams, r .slots, limits r .t1, x .room, x .member, rows-place (l .loop .inv) (c .before .next .ensures))
 
 loop-less : tie.Need-loop-less Inv-loop μ-loop
-loop-less c = let x = member (c .before .before .before .before) in search needs
+loop-less c =
+    let n = c .before .before .before .before in
+    let l = n .before .before .before .loop in
+    let x = n .next .ensures _ _ (l .inv .ahead) in search needs
 
 loop-again : tie.Need-loop-again Inv-loop μ-loop
-loop-again c = let x = member (c .before .before .before .before) in (x .ahead, c .before .before .fill-row .ensures)
+loop-again c =
+    let n = c .before .before .before .before in
+    let l = n .before .before .before .loop in rows-turn (l .inv) (n .next .ensures) (c .before .before .fill-row .ensures)
 
 same-length : tie.Need-same-length Inv-loop μ-loop
-same-length c = c .before .loop .inv .1 .filled .long ∙ sym (c .before .before .before .before .before .pre .2)
+same-length c = c .before .before .loop .inv .filled .filled .long ∙ sym (places (c .before .before .before .before .before))
 
 returns : tie.Need-returns Inv-loop μ-loop
 unfolding devSE1
-returns c = let l = c .before .loop in rows-done (rows-to-end (l .inv .1) (l .inv .0) (search needs))
+returns c = rows-end (c .before .before .loop .inv) (search needs)
 
 pub fill-separation-spec : {M : Type 1} → statement M
 fill-separation-spec =
@@ -77,15 +66,10 @@ fill-separation-spec =
     (tie.spec
     Inv-loop
     μ-loop
-    cast-front
-    front-requires
+    of-requires
     loop-holds
-    cast-i
-    add-i
+    next-requires
     fill-row-requires
-    cast-rest
-    shr-rest
-    add-i-2
     loop-less
     loop-again
     same-length

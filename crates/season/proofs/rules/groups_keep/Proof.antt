@@ -7,33 +7,36 @@ use Rattle.season.proofs.rules.groups_keep.Tie as tie
 everyone-requires : tie.Need-everyone-requires
 everyone-requires c κs = search needs
 
-cast-allows : tie.Need-cast-allows
-cast-allows c = search needs
+cast-teams : tie.Need-cast-teams
+cast-teams c = search needs
 
-allows-requires : tie.Need-allows-requires
-allows-requires c κs = search needs
+cast-in-range : tie.Need-cast-in-range
+cast-in-range c = search needs
 
-cast-allows-2 : tie.Need-cast-allows-2
-cast-allows-2 c = search needs
+in-range-requires : tie.Need-in-range-requires
+in-range-requires c κs = search needs
 
-allows-requires-2 : tie.Need-allows-requires-2
-allows-requires-2 c κs = search needs
+cast-holds : tie.Need-cast-holds
+cast-holds c = search needs
 
-everyone-requires-2 : tie.Need-everyone-requires-2
-everyone-requires-2 c κs = search needs
+holds-requires : tie.Need-holds-requires
+holds-requires c κs = search needs
 
-allows-requires-3 : tie.Need-allows-requires-3
-allows-requires-3 c κs = search needs
+all-requires : tie.Need-all-requires
+all-requires c κs = search needs
+
+holds-requires-2 : tie.Need-holds-requires-2
+holds-requires-2 c κs = search needs
 
 returns : tie.Need-returns
 unfolding groupsKeep
 returns c =
     rw (
-      c .before .before .before .before .allows .ensures,
-      c .before .before .allows2 .ensures,
-      c .allows3 .ensures,
+      c .before .before .before .before .in-range .ensures,
+      c .before .before .holds .ensures,
+      c .holds2 .ensures,
       c .before .before .before .before .before .before .everyone .ensures,
-      c .before .everyone2 .ensures,
+      c .before .all .ensures,
     )
 
 pub groups-keep-spec : {M : Type 1} → statement M
@@ -41,10 +44,11 @@ groups-keep-spec =
     tie.close
     (tie.spec
     everyone-requires
-    cast-allows
-    allows-requires
-    cast-allows-2
-    allows-requires-2
-    everyone-requires-2
-    allows-requires-3
+    cast-teams
+    cast-in-range
+    in-range-requires
+    cast-holds
+    holds-requires
+    all-requires
+    holds-requires-2
     returns)

@@ -4,40 +4,32 @@ use borrow.Author.Needs.{needs}
 use Rattle.season.proofs.rules.head_keeps.Statement.{statement}
 use Rattle.season.proofs.rules.head_keeps.Tie as tie
 
-cast-allows : tie.Need-cast-allows
-cast-allows c = search needs
+cast-in-range : tie.Need-cast-in-range
+cast-in-range c = search needs
 
-cast-allows-2 : tie.Need-cast-allows-2
-cast-allows-2 c = search needs
+in-range-requires : tie.Need-in-range-requires
+in-range-requires c κs = search needs
 
-allows-requires : tie.Need-allows-requires
-allows-requires c κs = search needs
+function-fits-requires : tie.Need-function-fits-requires
+function-fits-requires c κs = search needs
 
-cast-allows-3 : tie.Need-cast-allows-3
-cast-allows-3 c = search needs
+cast-in-range-2 : tie.Need-cast-in-range-2
+cast-in-range-2 c = search needs
 
-allows-requires-2 : tie.Need-allows-requires-2
-allows-requires-2 c κs = search needs
-
-cast-allows-4 : tie.Need-cast-allows-4
-cast-allows-4 c = search needs
-
-allows-requires-3 : tie.Need-allows-requires-3
-allows-requires-3 c κs = search needs
+in-range-requires-2 : tie.Need-in-range-requires-2
+in-range-requires-2 c κs = search needs
 
 returns : tie.Need-returns
 unfolding headKeeps
-returns c = rw (c .before .before .before .before .before .allows .ensures, c .before .before .allows2 .ensures, c .allows3 .ensures)
+returns c = rw (c .before .before .before .before .in-range .ensures, c .before .before .function-fits .ensures, c .in-range2 .ensures)
 
 pub head-keeps-spec : {M : Type 1} → statement M
 head-keeps-spec =
     tie.close
     (tie.spec
-    cast-allows
-    cast-allows-2
-    allows-requires
-    cast-allows-3
-    allows-requires-2
-    cast-allows-4
-    allows-requires-3
+    cast-in-range
+    in-range-requires
+    function-fits-requires
+    cast-in-range-2
+    in-range-requires-2
     returns)

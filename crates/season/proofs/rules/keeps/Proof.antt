@@ -1,4 +1,4 @@
--- The four parts of the rules.
+-- Whole from its four parts.
 use Rattle.season.proofs.Members.{keeps-counted}
 use borrow.Author.Needs.{needs}
 use Rattle.season.proofs.rules.keeps.Statement.{statement}
@@ -23,8 +23,15 @@ returns c =
       c .before .before .counts-keep .ensures,
       c .before .groups-keep .ensures,
       c .sizes-keep .ensures,
-      keeps-counted,
+      keeps-counted _ _ _ (c .before .before .before .before .args .c),
     )
 
 pub keeps-spec : {M : Type 1} → statement M
-keeps-spec = tie.close (tie.spec head-keeps-requires counts-keep-requires groups-keep-requires sizes-keep-requires returns)
+keeps-spec =
+    tie.close
+    (tie.spec
+    head-keeps-requires
+    counts-keep-requires
+    groups-keep-requires
+    sizes-keep-requires
+    returns)

@@ -1,0 +1,59 @@
+-- The totals are moved after the walk, which left them as they were, and the reply follows from them.
+use native.Mathlib.Omega.{arith}
+use borrow.Author.Needs.{needs}
+use Rattle.books.proofs.Turns.{all}
+use Rattle.books.proofs.Totalled.{answered}
+use Rattle.books.proofs.rework.Statement.{statement}
+use Rattle.books.proofs.rework.Tie as tie
+
+walk-requires : tie.Need-walk-requires
+walk-requires c κs = search needs
+
+settle-requires : tie.Need-settle-requires
+settle-requires c κs =
+    let w = c .before .before .before .before .before in
+    let g = w .before .before .before .before .before .before .pre .0 in
+    omega (arith, all g, g .tally-length, w .walk .kept)
+
+mul-verdict : tie.Need-mul-verdict
+mul-verdict c = search needs
+
+slice-read-verdict : tie.Need-slice-read-verdict
+slice-read-verdict c =
+    let w = c .before .before .before .before .before .before .before .before .before in
+    let g = w .before .before .before .before .before .before .pre .0 in
+    omega (arith, all g, g .tally-length, c .before .before .tally2 .given)
+
+verdict-requires : tie.Need-verdict-requires
+verdict-requires c κs = search needs
+
+accepted-requires : tie.Need-accepted-requires
+accepted-requires c κs = search needs
+
+same-length : tie.Need-same-length
+same-length c = search needs
+
+same-length-2 : tie.Need-same-length-2
+same-length-2 c = search needs
+
+returns : tie.Need-returns
+returns c =
+    let s = c .before .before .before .before .before in
+    let w = s .before .before .before .before .before .before in
+    let g = w .before .before .before .before .before .before .pre .0 in
+    let e = s .settle .ensures in
+    answered (g .tally-length) (all g) (w .walk .ensures) (e .0) (e .1) (e .2) (rw (← c .before .verdict .ensures) (c .accepted .ensures))
+
+pub rework-spec : {M : Type 1} → statement M
+rework-spec =
+    tie.close
+    (tie.spec
+    walk-requires
+    settle-requires
+    mul-verdict
+    slice-read-verdict
+    verdict-requires
+    accepted-requires
+    same-length
+    same-length-2
+    returns)
