@@ -24,4 +24,3 @@ pub mod Demand1
 pub mod Demand3
 pub mod Demand2
 pub mod Consequences
-pub mod Ties
