@@ -1,0 +1,4 @@
+pub mod Words
+pub mod Lists
+pub mod Steps
+pub mod Fresh

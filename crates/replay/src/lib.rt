@@ -1,0 +1,96 @@
+// A season opened and then a list of calls made, through the exported calls alone: the last reply, and the changes added up.
+ghost use mathlib.Core.Path.{_≡_};
+ghost use Rattle.robinx.specs.Calls.{buffers, outcome, callOn};
+ghost use Rattle.replay.specs.Word.{word};
+ghost use Rattle.replay.specs.Play.{callOf, callsOf, begun, withReply, Plays};
+use robinx::Reply;
+
+// The last reply, and the sums of the changes of all replies, modulo 2^64.
+pub struct Played {
+    pub reply: Reply,
+    pub infeasibility: u64,
+    pub objective: u64,
+}
+
+// A change modulo 2^64.
+pub fn word(change: i64) -> u64
+    ensures { λ r. ⌜ r ≡ word change ⌝ }
+{
+    if change < 0 {
+        return u64::MAX - ((-1 - change) as u64);
+    }
+    change as u64
+}
+
+impl Played {
+    fn of(opening: Reply) -> Self
+        ensures { λ r. ⌜ r ≡ begun opening ⌝ }
+    {
+        let hard = word(opening.infeasibility);
+        let soft = word(opening.objective);
+        Self {
+            reply: opening,
+            infeasibility: hard,
+            objective: soft,
+        }
+    }
+
+    fn then(mut self, reply: Reply) -> Self
+        ensures { λ r. ⌜ r ≡ withReply self reply ⌝ }
+    {
+        let hard = word(reply.infeasibility);
+        let soft = word(reply.objective);
+        self.reply = reply;
+        self.infeasibility = std::num::wrapping_add_u64(self.infeasibility, hard);
+        self.objective = std::num::wrapping_add_u64(self.objective, soft);
+        self
+    }
+}
+
+// One call of a list: kind 0 is set, any other is exchange.
+fn make(
+    season: &[u8],
+    sheet: &mut [u8],
+    ledger: &mut [u32],
+    tally: &mut [u64],
+    kind: u64,
+    first: u64,
+    second: u64,
+) -> Reply
+    ensures { λ r. ⌜ outcome r (buffers (now (sheet .exit)) (now (ledger .exit)) (now (tally .exit)))
+        ≡ callOn (now (season .entry)) (buffers (now (sheet .entry)) (now (ledger .entry)) (now (tally .entry))) (callOf kind first second) ⌝ }
+{
+    if kind == 0 {
+        return checker::season_set(season, sheet, ledger, tally, first, second);
+    }
+    checker::season_exchange(season, sheet, ledger, tally, first, second)
+}
+
+// Opens, and makes each call of the list, three words a call, whatever the replies are.
+pub fn play(
+    season: &[u8],
+    sheet: &mut [u8],
+    ledger: &mut [u32],
+    tally: &mut [u64],
+    calls: &[u64],
+) -> Played
+    ensures { λ r. ⌜ Plays (now (season .entry)) (buffers (now (sheet .entry)) (now (ledger .entry)) (now (tally .entry)))
+        (callsOf (now (calls .entry))) r (buffers (now (sheet .exit)) (now (ledger .exit)) (now (tally .exit))) ⌝ }
+{
+    let mut played = Played::of(checker::season_open(season, &*sheet, ledger, tally));
+    let mut i = 0;
+    while i + 3 <= calls.len() {
+        let reply = make(
+            season,
+            sheet,
+            ledger,
+            tally,
+            calls[i],
+            calls[i + 1],
+            calls[i + 2],
+        );
+        played = played.then(reply);
+        i += 3;
+    }
+    played
+}
