@@ -25,7 +25,7 @@ use Rattle.robinx.proofs.Limits.{Sound, decode-home, decode-away}
 use Rattle.season.specs.Sizes.{Measured}
 use Rattle.season.proofs.Found.{measured}
 use Rattle.timetable.specs.Tables.{Tables, xOf, InRange, Fits, unplaced}
-use Rattle.timetable.proofs.Fewer.{in-range-32}
+use Rattle.timetable.proofs.Fewer.{in-range-most}
 use Rattle.timetable.proofs.FirstGames.{unplaced-set, unplaced-low}
 use Rattle.books.specs.Touched.{Possible}
 use Rattle.books.specs.declared.touch.Move.{Move}
@@ -53,8 +53,8 @@ module _ {s : List ℕ} {t : Tables} {b : Buffers} {z : Season} {u : ℕ} (r : R
   clean : Clean s b
   clean = ready-passed r
 
-  pub range-32 : InRange mostTeams (decode s .home) (decode s .away) (b .sheet)
-  range-32 = in-range-32 (range s (b .sheet) (length (b .ledger)) (length (b .tally)) clean)
+  pub range-most : InRange mostTeams (decode s .home) (decode s .away) (b .sheet)
+  range-most = in-range-most (range s (b .sheet) (length (b .ledger)) (length (b .tally)) clean)
 
   pub as-many-games : length (decode s .home) ≡ decode s .G
   as-many-games = decode-home s (clean .s3)
@@ -82,12 +82,12 @@ module _ {s : List ℕ} {t : Tables} {b : Buffers} {z : Season} {u : ℕ} (r : R
   few-unplaced = omega (arith, r .count, unplaced-low (b .sheet) (decode s .G), sizes-sound .games)
 
   pub slot-possible : {g : ℕ} → g < decode s .G → getD (b .sheet) g 0 ≤ mostSlots
-  slot-possible {g} l = range-32 .slot-low g (omega (arith, as-many-games))
+  slot-possible {g} l = range-most .slot-low g (omega (arith, as-many-games))
 
   pub move-possible : {v : Move} (g from to : ℕ) → v ≡ moveOf (decode s .home) (decode s .away) g from to
       → g < decode s .G → from ≤ mostSlots → to ≤ mostSlots → Possible v
   move-possible g from to e l lf lt =
-      let w = range-32 .teams in
+      let w = range-most .teams in
       rw e (record {
         home = w .home-below g (omega (arith, as-many-games));
         away = w .away-below g (omega (arith, as-many-games));

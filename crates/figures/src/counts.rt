@@ -17,15 +17,16 @@ use masks::runs;
 use robinx::Constraint;
 use robinx::Season;
 
-// The teams against which games count: all of them in CA1, else those of T2.
+// The teams against which games count: all of them in CA1, those of T2 in CA2 and CA3.
 fn rivals(c: Constraint, n: usize) -> u32
-    requires { ⌜ (1 ≤ n) × (n ≤ mostTeams) ⌝ }
+    requires { ⌜ (1 ≤ n) × (n ≤ mostTeams) × (11 ≤ c .kind) × (c .kind ≤ 13) ⌝ }
     ensures { λ r. ⌜ r ≡ rivals n c ⌝ }
 {
-    if c.kind == 11 {
-        groups::everyone(n)
-    } else {
-        c.t2
+    let kind = c.kind;
+    match kind {
+        11 => groups::everyone(n),
+        12 | 13 => c.t2,
+        _ => 0,
     }
 }
 
@@ -38,7 +39,7 @@ fn counted(
     meets: &[u64; Season::PLACES],
     t: usize,
 ) -> u64
-    requires { ⌜ (t < n) × (1 ≤ c .mode) × Given n (c .t2) (tables (now home) (now away) (now meets)) ⌝ }
+    requires { ⌜ (t < n) × (1 ≤ c .mode) × (11 ≤ c .kind) × (c .kind ≤ 13) × Given n (c .t2) (tables (now home) (now away) (now meets)) ⌝ }
     ensures { λ r. ⌜ MaskOf (counted n c (xOf (now (meets .entry))) t) r ⌝ }
 {
     against(meets, home, away, mode_sides(c.mode), rivals(c, n), t, n)

@@ -1,10 +1,10 @@
 -- The reply and the tally of an opening are the report's, where ledger and tally have the season's sizes.
 use mathlib.Core.Path.{_≡_, refl, sym, ap, _∙_}
-use mathlib.Core.List.{List, [], _∷_, _++_}
+use mathlib.Core.List.{List, _++_}
 use mathlib.Core.Bool.{true, false, true≢false}
-use Prim.Native.Nat.{ℕ, zero, suc, _+_, _≤_, _<_}
+use Prim.Native.Nat.{ℕ, zero, suc, _+_}
 use native.Mathlib.Omega.{arith}
-use lib.ListN.{length, take}
+use lib.ListN.{length}
 use lib.Seq.{take-at}
 use Rattle.robinx.specs.Season.{decode}
 use Rattle.robinx.specs.Books.{timetable, total, isHard, verdict, allEntries, freshTally}
@@ -18,7 +18,6 @@ use Rattle.robinx.proofs.Lengths.{length-tally}
 use Rattle.season.specs.declared.Examined.{Examined}
 use Rattle.report.specs.Answer.{upToSix, unlessFault, reportReply}
 use Rattle.report.specs.Rows.{Written, TallyOf, rowsOf, Reported}
-use Rattle.report.specs.declared.Report.{Report}
 use Rattle.report.proofs.Sixth.{UpToSix, clear}
 
 abbrev verdictOf : List ℕ → ℕ

@@ -1,12 +1,11 @@
 -- Sentence 6 after the first five.
 use mathlib.Core.Path.{_≡_, refl, sym, ap, _∙_}
 use mathlib.Core.List.{List, [], _∷_}
-use mathlib.Core.Bool.{true, false}
 use Prim.Native.Nat.{ℕ, zero, suc, _≤_, _<_}
 use native.Mathlib.Omega.{arith}
 use lib.ListN.{length}
 use borrow.Author.Tests.{lt-ltb, le-ltb, ltb-false}
-use Rattle.robinx.specs.Season.{decode, mostConstraints}
+use Rattle.robinx.specs.Season.{decode, mostConstraints, mostDeviations}
 use Rattle.robinx.specs.Books.{allEntries}
 use Rattle.robinx.specs.Refusals.{Sentence, sentence, firstTrue, ofSeason, sentence1, sentence6}
 use Rattle.robinx.specs.declared.Season.{Season}
@@ -16,7 +15,7 @@ use Rattle.season.proofs.Read.{constraints-read}
 use Rattle.season.proofs.Found.{no-fault, refusal}
 use Rattle.season.specs.declared.Examined.{Examined}
 use Rattle.season.specs.Examination.{Examination, refusedBy}
-use Rattle.report.specs.Answer.{mostDeviations, upToSix}
+use Rattle.report.specs.Answer.{upToSix}
 
 -- an examination by sentences 1 to 6
 abbrev pub UpToSix : List ℕ → Examined → Type 0

@@ -1,13 +1,12 @@
 -- Rows that are written one behind the other, and the rows of the broken constraints.
 use mathlib.Core.Path.{_≡_, refl, sym, ap, _∙_}
 use mathlib.Core.List.{List, [], _∷_, _++_, append-assoc, append-nil}
-use Prim.Native.Nat.{ℕ, suc, _+_, _*_, _≤_, _<_}
+use Prim.Native.Nat.{ℕ, _+_, _*_, _≤_, _<_}
 use native.Mathlib.Numerals.{add-one}
 use native.Mathlib.Omega.{arith}
 use lib.ListN.{length, take, set, getD, length-append, length-set}
 use lib.Seq.{take-suc-set, getD-take}
 use borrow.Author.Tests.{lt-ltb, le-ltb}
-use Rattle.robinx.specs.Sums.{listTo}
 use Rattle.robinx.specs.Season.{Instance, decode}
 use Rattle.robinx.specs.Books.{timetable, penaltyAt, total, isHard, isSoft, freshTally}
 use Rattle.robinx.specs.Report.{brokenRows}

@@ -9,10 +9,6 @@ use Rattle.robinx.specs.Refusals.{Sentence, sentence, sentence6, ofSeason}
 use Rattle.robinx.specs.Report.{seasonOf, sheetOf, reportFault}
 use Rattle.robinx.specs.declared.Reply.{Reply}
 
--- the most deviations of a season that is reported
-abbrev pub mostDeviations : ℕ
-mostDeviations = 6000
-
 -- the most bytes of an input that are read: one more than the longest season with its sheet
 abbrev pub mostBytes : ℕ
 mostBytes = 6 + 2 * mostGames + 24 * mostConstraints + mostGames + 1

@@ -5,7 +5,7 @@ use Prim.Native.Nat.{ℕ, _+_, _*_}
 use lib.Dec.{eqb, leb, ltb}
 use lib.ListN.{length, getD}
 use Rattle.robinx.specs.Sums.{sumTo, anyTo, only}
-use Rattle.robinx.specs.Season.{Instance, decode, seasonLength, mostTeams, mostSlots, mostGames, mostConstraints, mostMeetings}
+use Rattle.robinx.specs.Season.{Instance, decode, seasonLength, mostTeams, mostSlots, mostGames, mostConstraints, mostMeetings, mostDeviations}
 use Rattle.robinx.specs.Rules.{obeys, fits}
 use Rattle.robinx.specs.Timetable.{clash}
 use Rattle.robinx.specs.Books.{allEntries}
@@ -53,7 +53,7 @@ sentence5 m = anyTo (λ c. not (obeys (m .n) (m .P) (m .constraint c))) (m .C)
 
 -- 6: too many deviations for the report program; the calls do not look at this
 unfoldable pub sentence6 : Instance → Bool
-sentence6 m = ltb 6000 (allEntries m)
+sentence6 m = ltb mostDeviations (allEntries m)
 
 -- 7: a lent buffer has another length than the season asks for
 unfoldable pub sentence7 : Instance → ℕ → ℕ → ℕ → Bool

@@ -24,6 +24,10 @@ mostMeetings = 8
 abbrev pub mostPlaces : ℕ
 mostPlaces = mostTeams * mostTeams
 
+-- the most deviations that the report program takes
+abbrev pub mostDeviations : ℕ
+mostDeviations = 6000
+
 -- the largest value of a byte
 abbrev pub mostByte : ℕ
 mostByte = 255

@@ -13,8 +13,8 @@ use Rattle.robinx.specs.Timetable.{isAt, meetings}
 use Rattle.robinx.proofs.Sums.{sum-zero}
 use Rattle.timetable.specs.Tables.{Tables, xOf, Shows, InRange}
 
-pub in-range-32 : {n : ℕ} {homes aways sheet : List ℕ} → InRange n homes aways sheet → InRange mostTeams homes aways sheet
-in-range-32 range = record {
+pub in-range-most : {n : ℕ} {homes aways sheet : List ℕ} → InRange n homes aways sheet → InRange mostTeams homes aways sheet
+in-range-most range = record {
   teams = record {
     few = omega arith;
     aways-length = range .teams .aways-length;

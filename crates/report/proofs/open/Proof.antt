@@ -6,9 +6,8 @@ use Prim.Native.Nat.{ℕ, _+_, _≤_}
 use native.Mathlib.Omega.{arith}
 use lib.Seq.{length-take-le}
 use borrow.Author.Needs.{needs}
-use Rattle.robinx.specs.Season.{mostConstraints}
+use Rattle.robinx.specs.Season.{mostConstraints, mostDeviations}
 use Rattle.season.specs.declared.Examined.{Examined}
-use Rattle.report.specs.Answer.{mostDeviations}
 use Rattle.report.proofs.Cut.{to-its-end}
 use Rattle.report.proofs.Sixth.{UpToSix, few-entries, few-constraints}
 use Rattle.report.proofs.Answered.{refused-early-of, opened-answers-of}

@@ -10,7 +10,7 @@ use Rattle.robinx.specs.Calls.{Call, moved}
 use Rattle.robinx.proofs.Sums.{only-le}
 use Rattle.books.proofs.Asked.{none-possible}
 use Rattle.checker.proofs.Outcomes.{set-touched}
-use Rattle.checker.proofs.Accept.{range-32, as-many-games, as-many-guests, as-many-slots, is-measured, few-slots, counted, few-unplaced, slot-possible, move-possible, set-fault-13, set-no-fault, given-after, call-is, unplaced-after-set}
+use Rattle.checker.proofs.Accept.{range-most, as-many-games, as-many-guests, as-many-slots, is-measured, few-slots, counted, few-unplaced, slot-possible, move-possible, set-fault-13, set-no-fault, given-after, call-is, unplaced-after-set}
 use Rattle.checker.proofs.calls.set_to.Statement.{statement}
 use Rattle.checker.proofs.calls.set_to.Tie as tie
 
@@ -28,7 +28,7 @@ unfolding decode
 reslot-requires c κs =
     let n = c .before .before .before .before .before in
     let r = n .before .before .before .before .before .before .pre .0 in
-    rw (n .before .homes .ensures, n .aways .ensures) (range-32 r, r .tables, omega (arith, as-many-games r), omega (arith, few-slots r))
+    rw (n .before .homes .ensures, n .aways .ensures) (range-most r, r .tables, omega (arith, as-many-games r), omega (arith, few-slots r))
 
 move-of-requires : tie.Need-move-of-requires
 unfolding decode

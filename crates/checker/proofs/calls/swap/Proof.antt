@@ -8,7 +8,7 @@ use borrow.Author.Tests.{not-true, not-false}
 use Rattle.robinx.specs.Season.{decode}
 use Rattle.robinx.specs.Calls.{Call, moved}
 use Rattle.checker.proofs.Outcomes.{exchange-touched}
-use Rattle.checker.proofs.Accept.{range-32, as-many-games, as-many-guests, as-many-slots, is-measured, slot-possible, move-possible, exchange-fault-13, exchange-no-fault, given-after, call-is, unplaced-after-exchange}
+use Rattle.checker.proofs.Accept.{range-most, as-many-games, as-many-guests, as-many-slots, is-measured, slot-possible, move-possible, exchange-fault-13, exchange-no-fault, given-after, call-is, unplaced-after-exchange}
 use Rattle.checker.proofs.calls.swap.Statement.{statement}
 use Rattle.checker.proofs.calls.swap.Tie as tie
 
@@ -30,7 +30,7 @@ swap-requires c κs =
     let n = c .before .before .before .before .before .before in
     let p = n .before .before .before .before .before .before .pre in
     rw (n .before .homes .ensures, n .aways .ensures)
-    (range-32 (p .0), p .0 .tables, omega (arith, as-many-games (p .0)), omega (arith, as-many-games (p .0)), p .3)
+    (range-most (p .0), p .0 .tables, omega (arith, as-many-games (p .0)), omega (arith, as-many-games (p .0)), p .3)
 
 move-of-requires : tie.Need-move-of-requires
 unfolding decode

@@ -13,7 +13,7 @@ rivals-requires c κs = search needs
 against-requires : tie.Need-against-requires
 against-requires c κs =
     let s = c .before .before in
-    let g = s .pre .2 in
+    let g = s .pre .4 in
     let small = rivals-small (s .args .n) (s .args .c) (g .group) in
     (s .pre .0, record { teams = g .teams; group = rw (c .rivals .ensures) small; tied = g .tied })
 

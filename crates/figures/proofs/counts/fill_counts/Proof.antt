@@ -1,4 +1,5 @@
 -- `counts::fill_counts` meets its contract: before each turn the figures of the teams passed are in. Assumes nothing.
+use native.Mathlib.Omega.{arith}
 use denote.Ref.{now}
 use mathlib.Core.Path.{_≡_, sym, ap, _∙_}
 use Prim.Native.Nat.{_-_, _<_}
@@ -41,7 +42,8 @@ next-requires c κs = search needs
 counted-requires : tie.Need-counted-requires Inv-loop μ-loop
 counted-requires c κs =
     let l = c .before .before .before in
-    let r = l .before .before .before .pre .0 in (c .next .ensures _ _ (l .loop .inv .ahead) .room, limits r .mode-least, given-t2 r)
+    let p = l .before .before .before .pre in
+    (c .next .ensures _ _ (l .loop .inv .ahead) .room, limits (p .0) .mode-least, p .1, omega (arith, p .2), given-t2 (p .0))
 
 count-in-requires : tie.Need-count-in-requires Inv-loop μ-loop
 count-in-requires c κs = search needs

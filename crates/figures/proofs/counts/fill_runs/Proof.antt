@@ -1,4 +1,5 @@
 -- `counts::fill_runs` meets its contract: before each turn the figures of the teams passed are in. Assumes nothing.
+use native.Mathlib.Omega.{arith}
 use denote.Ref.{now}
 use mathlib.Core.Path.{_≡_, refl, sym, _∙_}
 use Prim.Native.Nat.{_-_, _<_}
@@ -40,7 +41,8 @@ next-requires c κs = search needs
 counted-requires : tie.Need-counted-requires Inv-loop μ-loop
 counted-requires c κs =
     let l = c .before .before .before in
-    let r = l .before .before .before .pre .0 in (c .next .ensures _ _ (l .loop .inv .1 .ahead) .room, limits r .mode-least, given-t2 r)
+    let p = l .before .before .before .pre in
+    (c .next .ensures _ _ (l .loop .inv .1 .ahead) .room, limits (p .0) .mode-least, omega (arith, p .1), omega (arith, p .1), given-t2 (p .0))
 
 runs-of-requires : tie.Need-runs-of-requires Inv-loop μ-loop
 runs-of-requires c κs = let l = c .before .before .before .before .before in (l .before .before .before .pre .0 .slots, l .loop .inv .0)
