@@ -1,5 +1,6 @@
 // The one reader: it holds the season and walks its constraints. Functions over it are thin and proved by hand, and the work is left to
-// `constraint_at`. A caller uses `constraint_of`, whose parameters are plain, and so needs no such proof.
+// `constraint_at`. `examine_constraints` carries one cursor from the first constraint to the last, and its loop is walked by hand too. A
+// caller that asks for one constraint uses `constraint_of`, whose parameters are plain, and so needs no such proof.
 ghost use mathlib.Core.Path.{_≡_};
 ghost use Prim.Native.Nat.{_+_, _<_, _^_};
 ghost use Rattle.robinx.specs.Season.{decode};
@@ -15,14 +16,14 @@ pub struct Cursor<'a> {
 }
 
 // Before the first constraint.
-fn start<'a>(season: &'a [u8]) -> Cursor<'a>
+pub fn start<'a>(season: &'a [u8]) -> Cursor<'a>
     ensures { λ r. ⌜ (r .season ≡ season .entry) × (r .at ≡ 0) ⌝ }
 {
     Cursor { season, at: 0 }
 }
 
 // Moves on by a number of constraints.
-fn forward<'a>(r: Cursor<'a>, by: usize) -> Cursor<'a>
+pub fn forward<'a>(r: Cursor<'a>, by: usize) -> Cursor<'a>
     requires { ⌜ r .at + by < 2 ^ 64 ⌝ }
     ensures { λ q. ⌜ (q .season ≡ r .entry .season) × (q .at ≡ r .entry .at + by) ⌝ }
 {
@@ -33,7 +34,7 @@ fn forward<'a>(r: Cursor<'a>, by: usize) -> Cursor<'a>
 }
 
 // The constraint that is next.
-fn read<'a>(r: Cursor<'a>, z: Season) -> Constraint
+pub fn read<'a>(r: Cursor<'a>, z: Season) -> Constraint
     requires { ⌜ (Measured (now (r .season)) z) × (r .at < z .constraints) ⌝ }
     ensures { λ c. ⌜ c ≡ decode (now (r .entry .season)) .constraint (r .entry .at) ⌝ }
 {

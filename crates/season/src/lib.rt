@@ -8,11 +8,12 @@ pub mod rules;
 ghost use mathlib.Core.Path.{_≡_};
 ghost use mathlib.Core.Bool.{false};
 ghost use mathlib.Core.List.{_∷_, []};
-ghost use Prim.Native.Nat.{_+_, _*_, _<_};
+ghost use Prim.Native.Nat.{_+_, _*_, _<_, _^_};
 ghost use Rattle.robinx.specs.Season.{decode};
 ghost use Rattle.robinx.specs.Refusals.{sentence, sentence3, sentence4, sentence5, ofSeason};
 ghost use Rattle.season.specs.Sizes.{sizesOf, Measured, outOfRange};
-ghost use Rattle.season.specs.Examination.{Examination, refusedBy};
+ghost use Rattle.season.specs.Examination.{Examination, refusedBy, further};
+use robinx::Constraint;
 use robinx::Season;
 
 // The number of the first true sentence, or 0 and then the sizes and the number of deviations.
@@ -66,26 +67,38 @@ fn meetings_bad(season: &[u8], z: Season) -> bool
     games::games_bad(homes, aways, z.teams)
 }
 
-// Sentence 5 and the number of deviations, in one pass over the constraints.
-fn examine_constraints(season: &[u8], z: Season) -> Examined
-    requires { ⌜ (Measured (now season) z) × (outOfRange z ≡ false) ⌝ }
-    ensures { λ r. ⌜ Examination (sentence 5 (sentence5 (decode (now (season .entry)))) ∷ []) (now (season .entry)) r ⌝ }
+// One more constraint: a refusal by sentence 5, or its deviations counted.
+fn examine_next(x: Examined, k: Constraint) -> Examined
+    requires { ⌜ (outOfRange (x .sizes) ≡ false) × (x .entries + 496 < 2 ^ 64) ⌝ }
+    ensures { λ r. ⌜ r ≡ further x k ⌝ }
 {
-    let mut e: usize = 0;
-    let mut c: usize = 0;
-    while c < z.constraints {
-        let k = cursor::constraint_of(season, z, c);
-        if !kinds::obeys(k, z.teams, z.slots) {
-            return refused_by(5);
-        }
-        e += rules::entries_of(k);
-        c += 1;
+    let z = x.sizes;
+    if !kinds::obeys(k, z.teams, z.slots) {
+        return refused_by(5);
     }
     Examined {
         fault: 0,
         sizes: z,
-        entries: e,
+        entries: x.entries + rules::entries_of(k),
     }
+}
+
+// Sentence 5 and the number of deviations: one cursor goes from the first constraint to the last, or to one that breaks a rule.
+fn examine_constraints(season: &[u8], z: Season) -> Examined
+    requires { ⌜ (Measured (now season) z) × (outOfRange z ≡ false) ⌝ }
+    ensures { λ r. ⌜ Examination (sentence 5 (sentence5 (decode (now (season .entry)))) ∷ []) (now (season .entry)) r ⌝ }
+{
+    let mut r = cursor::start(season);
+    let mut x = Examined {
+        fault: 0,
+        sizes: z,
+        entries: 0,
+    };
+    while (r.at < z.constraints) & (x.fault == 0) {
+        x = examine_next(x, cursor::read(r, z));
+        r = cursor::forward(r, 1);
+    }
+    x
 }
 
 // Any bytes, by sentences 1 to 5.
