@@ -36,7 +36,8 @@ returns c =
     let w = s .before .before .before .before .before .before .before in
     let e = w .before .before .before in
     let g = e .before .before .before .before .pre in
-    opened (g .tally-length) (all g) (e .everything .result) (e .everything .ensures .0) (w .walk .ensures) (s .store .ensures) (rw (← c .before .verdict .ensures) (c .accepted .ensures))
+    opened (g .tally-length) (all g) (e .everything .result) (e .everything .ensures .0) (w .walk .ensures) (s .store .ensures)
+    (rw (← c .before .verdict .ensures) (c .accepted .ensures))
 
 pub open-spec : {M : Type 1} → statement M
 open-spec =

@@ -1,5 +1,8 @@
--- `examine_constraints` meets its contract: a walk of its MIR, by hand, through its loop. One cursor is made before the loop and carried by it: each turn reads the constraint at the cursor, passes it to `examine_next`, and moves the cursor on by one. All that the proof knows of `start`, `read`, `forward` and `examine_next` is that each meets its contract.
--- The loop goes by `Types/Run.antt`'s `loops`. Its invariant is a context, at a `State`: the cursor's machine value and the answer's in their locals, what the cursor owns, and the facts of both. The variant is how many constraints are left.
+-- `examine_constraints` meets its contract: a walk of its MIR, by hand, through its loop. One cursor is made before the loop and carried by
+-- it: each turn reads the constraint at the cursor, passes it to `examine_next`, and moves the cursor on by one. All that the proof knows of
+-- `start`, `read`, `forward` and `examine_next` is that each meets its contract.
+-- The loop goes by `Types/Run.antt`'s `loops`. Its invariant is a context, at a `State`: the cursor's machine value and the answer's in their
+-- locals, what the cursor owns, and the facts of both. The variant is how many constraints are left.
 use mathlib.Core.Path.{_≡_, refl, subst, _∙_}
 use mathlib.Core.Bool.{Bool, false, not, _&&_}
 use mathlib.Core.WellFounded.{WellFounded, InvImage·wf}

@@ -29,7 +29,8 @@ add-t7 : tie.Need-add-t7
 add-t7 c =
     let d = c .before .before .before in
     let kept = sym (d .obeys .ensures) ∙ not-false _ (c .before .before .if1 .left) in
-    record { fits = omega (arith, ones-small _ _ (ranges (d .before .before) .teams) (ranges (d .before .before) .slots) _ kept, c .before .entries-of .ensures, d .before .before .pre .1) }
+    let r = ranges (d .before .before) in
+    record { fits = omega (arith, ones-small _ _ (r .teams) (r .slots) _ kept, c .before .entries-of .ensures, d .before .before .pre .1) }
 
 returns-2 : tie.Need-returns-2
 returns-2 c =

@@ -24,10 +24,14 @@ refused-by-requires : tie.Need-refused-by-requires
 refused-by-requires c κs = search needs
 
 returns : tie.Need-returns
-returns c = rw (c .refused-by .ensures) (season-refused (season (c .before .before .before)) (lent (c .before .before .before)) (c .before .before .before .examine .ensures) (c .before .if1 .taken))
+returns c =
+    let e = c .before .before .before in
+    rw (c .refused-by .ensures) (season-refused (season e) (lent e) (e .examine .ensures) (c .before .if1 .taken))
 
 lengths-bad-requires : tie.Need-lengths-bad-requires
-lengths-bad-requires c κs = few-constraints (season (c .before .before .before)) (lent (c .before .before .before)) (c .before .before .before .examine .ensures) (c .before .if1 .left)
+lengths-bad-requires c κs =
+    let e = c .before .before .before in
+    few-constraints (season e) (lent e) (e .examine .ensures) (c .before .if1 .left)
 
 refused-by-requires-2 : tie.Need-refused-by-requires-2
 refused-by-requires-2 c κs = search needs
@@ -36,7 +40,8 @@ returns-2 : tie.Need-returns-2
 returns-2 c =
     let e = c .before .before .before .before .before .before in
     rw (c .refused-by2 .ensures)
-    (lengths-refused (season e) (lent e) (e .examine .ensures) (c .before .before .before .before .if1 .left) (sym (c .before .before .lengths-bad .ensures) ∙ c .before .if2 .taken))
+    (lengths-refused (season e) (lent e) (e .examine .ensures) (c .before .before .before .before .if1 .left)
+    (sym (c .before .before .lengths-bad .ensures) ∙ c .before .if2 .taken))
 
 -- past sentence 7 the buffers have their lengths
 fit : (c : tie.Else2) → let e = c .before .before .before .before .before in misfit (season e) (lent e) (e .examine .ensures) (c .before .before .before .if1 .left) ≡ false

@@ -67,7 +67,8 @@ returns-4 c =
     let e = games-read _ (s .pre .sizes) in
     rw (
       c .declined4 .ensures,
-      exchange-fault-12 (decode (now (a .season))) (now (a .sheet)) (a .game) (a .other) (omega (arith, e, i .if1 .left)) (omega (arith, e, c .before .before .before .before .before .if2 .left))
+      exchange-fault-12 (decode (now (a .season))) (now (a .sheet)) (a .game) (a .other) (omega (arith, e, i .if1 .left))
+          (omega (arith, e, c .before .before .before .before .before .if2 .left))
           (c .before .before .before .before .if3 .left)
           (sym (c .before .before .unplaced-pair .ensures) ∙ c .before .if4 .taken),
     )

@@ -42,16 +42,27 @@ no-slot-requires : tie.Need-no-slot-requires
 no-slot-requires c κs = search needs
 
 sub-left : tie.Need-sub-left
-sub-left c = let t = c .before .before .before in let n = t .before .before .before .before .before .before in let p = n .before .before .before .before .before .before .pre in omega (arith, c .no-slot .ensures, counted (p .0) (p .1))
+sub-left c =
+    let t = c .before .before .before in
+    let n = t .before .before .before .before .before .before in
+    let p = n .before .before .before .before .before .before .pre in
+    omega (arith, c .no-slot .ensures, counted (p .0) (p .1))
 
 no-slot-requires-2 : tie.Need-no-slot-requires-2
 no-slot-requires-2 c κs = search needs
 
 add-left : tie.Need-add-left
-add-left c = let t = c .before .before .before .before in let n = t .before .before .before .before .before .before in let s = n .before .before .before .before .before .before in omega (arith, c .no-slot2 .ensures, few-unplaced (s .pre .0), only-le (eqb (s .args .b) 0) 1)
+add-left c =
+    let t = c .before .before .before .before in
+    let n = t .before .before .before .before .before .before in
+    let s = n .before .before .before .before .before .before in
+    omega (arith, c .no-slot2 .ensures, few-unplaced (s .pre .0), only-le (eqb (s .args .b) 0) 1)
 
 slice-write-sheet : tie.Need-slice-write-sheet
-slice-write-sheet c = let t = c .before .before .before .before in let n = t .before .before .before .before .before .before in omega (arith, as-many-slots (n .before .before .before .before .before .before .pre .0))
+slice-write-sheet c =
+    let t = c .before .before .before .before in
+    let n = t .before .before .before .before .before .before in
+    omega (arith, as-many-slots (n .before .before .before .before .before .before .pre .0))
 
 no-move-requires : tie.Need-no-move-requires
 no-move-requires c κs = search needs
@@ -63,7 +74,9 @@ moves-requires c κs =
     let n = t .before .before .before .before .before .before in
     let a = n .before .before .before .before .before .before .args in
     let p = n .before .before .before .before .before .before .pre in (
-      move-possible (p .0) (a .g) _ (a .b) (rw (n .before .homes .ensures, n .aways .ensures) at (c .before .before .before .move-of .ensures)) (p .1) (slot-possible (p .0) (p .1)) (omega (arith, few-slots (p .0))),
+      move-possible (p .0) (a .g) _ (a .b) (rw (n .before .homes .ensures, n .aways .ensures) at (c .before .before .before .move-of .ensures)) (p .1)
+          (slot-possible (p .0) (p .1))
+          (omega (arith, few-slots (p .0))),
       none-possible (c .no-move .ensures),
     )
 
@@ -74,7 +87,8 @@ rework-requires c κs =
     let n = t .before .before .before .before .before .before in
     let a = n .before .before .before .before .before .before .args in
     let p = n .before .before .before .before .before .before .pre in
-    let f = rw (c .before .before .before .before .before .before .before .before .before .before .if1 .taken, n .before .homes .ensures, n .aways .ensures) at (t .reslot .ensures) in
+    let went = c .before .before .before .before .before .before .before .before .before .before .if1 .taken in
+    let f = rw (went, n .before .homes .ensures, n .aways .ensures) at (t .reslot .ensures) in
     let e = set-no-fault (decode (now (a .season))) (now (a .sheet)) (a .g) (a .b) (p .1) (p .2) (not-true _ (sym (f .no-clash))) in
     (given-after (p .0) (Call.setSlot (a .g) (a .b)) e f, c .before .before .before .before .before .moves .ensures .3)
 
@@ -99,8 +113,13 @@ returns c =
     let f = rw (d .before .if1 .taken, n .before .homes .ensures, n .aways .ensures) at (t .reslot .ensures) in
     let e = set-no-fault (decode (now (a .season))) (now (a .sheet)) (a .g) (a .b) (p .1) (p .2) (not-true _ (sym (f .no-clash))) in
     call-is (p .0) (Call.setSlot (a .g) (a .b)) e f (c .before .before .before .before .rework .ensures)
-    (set-touched (decode (now (a .season))) (now (a .sheet)) (m .moves .result) (m .moves .ensures) (a .g) (a .b) (rw (n .before .homes .ensures, n .aways .ensures) at (d .move-of .ensures)) (m .before .no-move .ensures))
-    (unplaced-after-set (now (a .sheet)) (a .g) (a .b) (decode (now (a .season)) .G) (p .1) (as-many-slots (p .0)) (p .0 .count) (m .before .before .before .no-slot .ensures) (m .before .before .no-slot2 .ensures) refl)
+    (set-touched (decode (now (a .season))) (now (a .sheet)) (m .moves .result) (m .moves .ensures) (a .g) (a .b)
+    (rw (n .before .homes .ensures, n .aways .ensures) at (d .move-of .ensures))
+    (m .before .no-move .ensures))
+    (unplaced-after-set (now (a .sheet)) (a .g) (a .b) (decode (now (a .season)) .G) (p .1) (as-many-slots (p .0)) (p .0 .count)
+    (m .before .before .before .no-slot .ensures)
+    (m .before .before .no-slot2 .ensures)
+    refl)
 
 declined-requires : tie.Need-declined-requires
 declined-requires c κs = search needs

@@ -49,10 +49,16 @@ move-of-requires-2 c κs =
     rw (n .before .homes .ensures, n .aways .ensures) (omega (arith, as-many-games r), omega (arith, as-many-guests r))
 
 slice-write-sheet : tie.Need-slice-write-sheet
-slice-write-sheet c = let t = c .before .before .before in let n = t .before .before .before .before .before .before .before in omega (arith, as-many-slots (n .before .before .before .before .before .before .pre .0))
+slice-write-sheet c =
+    let t = c .before .before .before in
+    let n = t .before .before .before .before .before .before .before in
+    omega (arith, as-many-slots (n .before .before .before .before .before .before .pre .0))
 
 slice-write-sheet-2 : tie.Need-slice-write-sheet-2
-slice-write-sheet-2 c = let t = c .before .before .before in let n = t .before .before .before .before .before .before .before in rw length-set (omega (arith, as-many-slots (n .before .before .before .before .before .before .pre .0)))
+slice-write-sheet-2 c =
+    let t = c .before .before .before in
+    let n = t .before .before .before .before .before .before .before in
+    rw length-set (omega (arith, as-many-slots (n .before .before .before .before .before .before .pre .0)))
 
 moves-requires : tie.Need-moves-requires
 unfolding decode
@@ -98,7 +104,9 @@ returns c =
     let f = rw (m .before .before .before .if1 .taken, n .before .homes .ensures, n .aways .ensures) at (t .swap .ensures) in
     let e = exchange-no-fault (decode (now (a .season))) (now (a .sheet)) (a .g) (a .h) (p .1) (p .2) (p .3) (p .4) (not-true _ (sym (f .no-clash))) in
     call-is (p .0) (Call.exchange (a .g) (a .h)) e f (c .before .before .before .before .rework .ensures)
-    (exchange-touched (decode (now (a .season))) (now (a .sheet)) (m .moves .result) (m .moves .ensures) (a .g) (a .h) (rw (n .before .homes .ensures, n .aways .ensures) at (m .before .before .move-of .ensures)) (rw (n .before .homes .ensures, n .aways .ensures) at (m .before .move-of2 .ensures)))
+    (exchange-touched (decode (now (a .season))) (now (a .sheet)) (m .moves .result) (m .moves .ensures) (a .g) (a .h)
+    (rw (n .before .homes .ensures, n .aways .ensures) at (m .before .before .move-of .ensures))
+    (rw (n .before .homes .ensures, n .aways .ensures) at (m .before .move-of2 .ensures)))
     (unplaced-after-exchange (now (a .sheet)) (a .g) (a .h) (decode (now (a .season)) .G) (p .1) (p .2) (p .3) (as-many-slots (p .0)) (p .0 .count) (p .4))
 
 declined-requires : tie.Need-declined-requires

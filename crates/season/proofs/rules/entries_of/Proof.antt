@@ -54,7 +54,9 @@ returns-5 c = rw (← c .before .before .before .before .form-of .ensures, c .be
 
 returns-6 : tie.Need-returns-6
 unfolding onesIn
-returns-6 c = rw (← c .before .before .before .before .before .form-of .ensures, c .before .before .before .enum-told5 .given .1, lt-leb _ _ (c .before .if1 .left)) (c .size .ensures .0)
+returns-6 c =
+    let t = c .before .before .before in
+    rw (← t .before .before .form-of .ensures, t .enum-told5 .given .1, lt-leb _ _ (c .before .if1 .left)) (c .size .ensures .0)
 
 pub entries-of-spec : {M : Type 1} → statement M
 entries-of-spec =
