@@ -17,6 +17,7 @@ ghost use Rattle.books.specs.Walk.{Given, Sound, isTouched, stored};
 ghost use Rattle.books.specs.Answer.{verdictOf, Opened, Answered};
 use robinx::Reply;
 use robinx::Season;
+use robinx::Slots;
 use robinx::Totals;
 use walk::Moved;
 use walk::Touch;
@@ -81,9 +82,9 @@ pub fn open(
     season: &[u8],
     z: Season,
     unplaced: usize,
-    home: &[u64; Season::TEAMS],
-    away: &[u64; Season::TEAMS],
-    meets: &[u64; Season::PLACES],
+    home: &[Slots; Season::TEAMS],
+    away: &[Slots; Season::TEAMS],
+    meets: &[Slots; Season::PLACES],
     ledger: &mut [u32],
     tally: &mut [u64],
 ) -> Reply
@@ -111,9 +112,9 @@ pub fn rework(
     z: Season,
     touch: Touch,
     unplaced: usize,
-    home: &[u64; Season::TEAMS],
-    away: &[u64; Season::TEAMS],
-    meets: &[u64; Season::PLACES],
+    home: &[Slots; Season::TEAMS],
+    away: &[Slots; Season::TEAMS],
+    meets: &[Slots; Season::PLACES],
     ledger: &mut [u32],
     tally: &mut [u64],
 ) -> Reply

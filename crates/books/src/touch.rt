@@ -7,9 +7,9 @@ ghost use Rattle.robinx.specs.Season.{mostTeams, mostSlots};
 ghost use Rattle.robinx.specs.Touch.{teamsTouch, slotTouches};
 ghost use Rattle.books.specs.Touched.{atSlot, noMove, Possible, Named, AsksForT1, PassedOver, byRow};
 use groups::is_in;
-use masks::Slots;
 use robinx::Constraint;
 use robinx::Form;
+use robinx::Slots;
 use robinx::TouchSlots;
 use robinx::TouchTeams;
 

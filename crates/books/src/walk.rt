@@ -20,6 +20,7 @@ use super::touch::teams_of;
 use figures::fill;
 use robinx::Constraint;
 use robinx::Season;
+use robinx::Slots;
 use robinx::Totals;
 use season::kinds::form_of;
 
@@ -83,9 +84,9 @@ pub fn price(
     c: Constraint,
     n: usize,
     p: usize,
-    home: &[u64; Season::TEAMS],
-    away: &[u64; Season::TEAMS],
-    meets: &[u64; Season::PLACES],
+    home: &[Slots; Season::TEAMS],
+    away: &[Slots; Season::TEAMS],
+    meets: &[Slots; Season::PLACES],
     stretch: &mut [u32],
 ) -> u64
     requires { ⌜ Ready n p c (tables (now home) (now away) (now meets)) (now stretch) ⌝ }
@@ -117,9 +118,9 @@ fn renew(
     c: Constraint,
     z: Season,
     k: usize,
-    home: &[u64; Season::TEAMS],
-    away: &[u64; Season::TEAMS],
-    meets: &[u64; Season::PLACES],
+    home: &[Slots; Season::TEAMS],
+    away: &[Slots; Season::TEAMS],
+    meets: &[Slots; Season::PLACES],
     stretch: &mut [u32],
     tally: &mut [u64],
 ) -> Moved
@@ -138,9 +139,9 @@ pub fn walk(
     season: &[u8],
     z: Season,
     touch: Touch,
-    home: &[u64; Season::TEAMS],
-    away: &[u64; Season::TEAMS],
-    meets: &[u64; Season::PLACES],
+    home: &[Slots; Season::TEAMS],
+    away: &[Slots; Season::TEAMS],
+    meets: &[Slots; Season::PLACES],
     ledger: &mut [u32],
     tally: &mut [u64],
 ) -> Moved

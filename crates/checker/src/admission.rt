@@ -11,6 +11,7 @@ ghost use Rattle.season.specs.Sizes.{Measured};
 ghost use Rattle.timetable.specs.Tables.{tables, Teams, Empty, Builds};
 ghost use Rattle.checker.specs.Admission.{Admits, refusedBy};
 use robinx::Season;
+use robinx::Slots;
 use timetable::Built;
 
 // The number of the first true sentence, or 0 and then the sizes and the number of unplaced games.
@@ -48,9 +49,9 @@ pub fn lay_tables(
     season: &[u8],
     z: Season,
     sheet: &[u8],
-    home: &mut [u64; Season::TEAMS],
-    away: &mut [u64; Season::TEAMS],
-    meets: &mut [u64; Season::PLACES],
+    home: &mut [Slots; Season::TEAMS],
+    away: &mut [Slots; Season::TEAMS],
+    meets: &mut [Slots; Season::PLACES],
 ) -> Built
     requires { ⌜ Measured (now season) z × Teams mostTeams (decode (now season) .home) (decode (now season) .away)
         × (length (now sheet) ≡ length (decode (now season) .home)) × (z .slots ≤ mostSlots) × Empty (tables (now home) (now away) (now meets)) ⌝ }
@@ -67,9 +68,9 @@ pub fn admit(
     sheet: &[u8],
     ledger: &[u32],
     tally: &[u64],
-    home: &mut [u64; Season::TEAMS],
-    away: &mut [u64; Season::TEAMS],
-    meets: &mut [u64; Season::PLACES],
+    home: &mut [Slots; Season::TEAMS],
+    away: &mut [Slots; Season::TEAMS],
+    meets: &mut [Slots; Season::PLACES],
 ) -> Admission
     requires { ⌜ Empty (tables (now home) (now away) (now meets)) ⌝ }
     ensures { λ r. ⌜ Admits (now (season .entry)) (buffers (now (sheet .entry)) (now (ledger .entry)) (now (tally .entry))) r

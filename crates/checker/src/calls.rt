@@ -14,6 +14,7 @@ use books::touch::no_move;
 use books::walk::moves;
 use robinx::Reply;
 use robinx::Season;
+use robinx::Slots;
 use timetable::no_slot;
 
 pub fn declined(number: u8) -> Reply
@@ -46,9 +47,9 @@ fn set_to(
     z: Season,
     sheet: &mut [u8],
     unplaced: usize,
-    home: &mut [u64; Season::TEAMS],
-    away: &mut [u64; Season::TEAMS],
-    meets: &mut [u64; Season::PLACES],
+    home: &mut [Slots; Season::TEAMS],
+    away: &mut [Slots; Season::TEAMS],
+    meets: &mut [Slots; Season::PLACES],
     ledger: &mut [u32],
     tally: &mut [u64],
     g: usize,
@@ -96,9 +97,9 @@ fn swap(
     z: Season,
     sheet: &mut [u8],
     unplaced: usize,
-    home: &mut [u64; Season::TEAMS],
-    away: &mut [u64; Season::TEAMS],
-    meets: &mut [u64; Season::PLACES],
+    home: &mut [Slots; Season::TEAMS],
+    away: &mut [Slots; Season::TEAMS],
+    meets: &mut [Slots; Season::PLACES],
     ledger: &mut [u32],
     tally: &mut [u64],
     g: usize,
@@ -149,9 +150,9 @@ pub fn set(
     z: Season,
     sheet: &mut [u8],
     unplaced: usize,
-    home: &mut [u64; Season::TEAMS],
-    away: &mut [u64; Season::TEAMS],
-    meets: &mut [u64; Season::PLACES],
+    home: &mut [Slots; Season::TEAMS],
+    away: &mut [Slots; Season::TEAMS],
+    meets: &mut [Slots; Season::PLACES],
     ledger: &mut [u32],
     tally: &mut [u64],
     game: u64,
@@ -196,9 +197,9 @@ pub fn exchange(
     z: Season,
     sheet: &mut [u8],
     unplaced: usize,
-    home: &mut [u64; Season::TEAMS],
-    away: &mut [u64; Season::TEAMS],
-    meets: &mut [u64; Season::PLACES],
+    home: &mut [Slots; Season::TEAMS],
+    away: &mut [Slots; Season::TEAMS],
+    meets: &mut [Slots; Season::PLACES],
     ledger: &mut [u32],
     tally: &mut [u64],
     game: u64,

@@ -6,6 +6,7 @@ ghost use mathlib.Core.Path.{_≡_};
 ghost use Rattle.robinx.specs.Calls.{buffers, outcome, openCall, setCall, exchangeCall};
 use robinx::Reply;
 use robinx::Season;
+use robinx::Slots;
 
 // Checks a proposed sheet and fills ledger and tally.
 #[no_mangle]
@@ -18,9 +19,9 @@ pub extern "C" fn season_open(
     ensures { λ r. ⌜ outcome r (buffers (now (sheet .entry)) (now (ledger .exit)) (now (tally .exit)))
         ≡ openCall (now (season .entry)) (buffers (now (sheet .entry)) (now (ledger .entry)) (now (tally .entry))) ⌝ }
 {
-    let mut home = [0u64; Season::TEAMS];
-    let mut away = [0u64; Season::TEAMS];
-    let mut meets = [0u64; Season::PLACES];
+    let mut home = [masks::NONE; Season::TEAMS];
+    let mut away = [masks::NONE; Season::TEAMS];
+    let mut meets = [masks::NONE; Season::PLACES];
     let a = admission::admit(
         season,
         sheet,
@@ -58,9 +59,9 @@ pub extern "C" fn season_set(
     ensures { λ r. ⌜ outcome r (buffers (now (sheet .exit)) (now (ledger .exit)) (now (tally .exit)))
         ≡ setCall (now (season .entry)) (buffers (now (sheet .entry)) (now (ledger .entry)) (now (tally .entry))) game slot ⌝ }
 {
-    let mut home = [0u64; Season::TEAMS];
-    let mut away = [0u64; Season::TEAMS];
-    let mut meets = [0u64; Season::PLACES];
+    let mut home = [masks::NONE; Season::TEAMS];
+    let mut away = [masks::NONE; Season::TEAMS];
+    let mut meets = [masks::NONE; Season::PLACES];
     let a = admission::admit(
         season,
         &*sheet,
@@ -101,9 +102,9 @@ pub extern "C" fn season_exchange(
     ensures { λ r. ⌜ outcome r (buffers (now (sheet .exit)) (now (ledger .exit)) (now (tally .exit)))
         ≡ exchangeCall (now (season .entry)) (buffers (now (sheet .entry)) (now (ledger .entry)) (now (tally .entry))) game other ⌝ }
 {
-    let mut home = [0u64; Season::TEAMS];
-    let mut away = [0u64; Season::TEAMS];
-    let mut meets = [0u64; Season::PLACES];
+    let mut home = [masks::NONE; Season::TEAMS];
+    let mut away = [masks::NONE; Season::TEAMS];
+    let mut meets = [masks::NONE; Season::PLACES];
     let a = admission::admit(
         season,
         &*sheet,

@@ -20,6 +20,7 @@ use crate::measure::outside;
 use crate::opponents::against;
 use robinx::Constraint;
 use robinx::Season;
+use robinx::Slots;
 
 fn group_if(asked: bool, member: bool, group: u32) -> u32
     ensures { λ r. ⌜ r ≡ only (asked && member) group ⌝ }
@@ -47,11 +48,11 @@ fn hosted(
     t1: u32,
     t2: u32,
     n: usize,
-    home: &[u64; Season::TEAMS],
-    away: &[u64; Season::TEAMS],
-    meets: &[u64; Season::PLACES],
+    home: &[Slots; Season::TEAMS],
+    away: &[Slots; Season::TEAMS],
+    meets: &[Slots; Season::PLACES],
     i: usize,
-) -> u64
+) -> Slots
     requires { ⌜ (i < n) × Given n t1 (tables (now home) (now away) (now meets)) × (t2 < 2 ^ n) ⌝ }
     ensures { λ r. ⌜ MaskOf (hosts n (xOf (now (meets .entry))) sides t1 t2 i) r ⌝ }
 {
@@ -63,11 +64,11 @@ fn games_in(
     sides: u8,
     t1: u32,
     t2: u32,
-    s: u64,
+    s: Slots,
     n: usize,
-    home: &[u64; Season::TEAMS],
-    away: &[u64; Season::TEAMS],
-    meets: &[u64; Season::PLACES],
+    home: &[Slots; Season::TEAMS],
+    away: &[Slots; Season::TEAMS],
+    meets: &[Slots; Season::PLACES],
 ) -> u32
     requires { ⌜ Given n t1 (tables (now home) (now away) (now meets)) × (t2 < 2 ^ n) ⌝ }
     ensures { λ r. ⌜ r ≡ over mostSlots s (gamesBetween n (xOf (now (meets .entry))) sides t1 t2) ⌝ }
@@ -87,10 +88,10 @@ fn lay_hosted(
     t1: u32,
     t2: u32,
     n: usize,
-    home: &[u64; Season::TEAMS],
-    away: &[u64; Season::TEAMS],
-    meets: &[u64; Season::PLACES],
-    words: &mut [u64; Season::TEAMS],
+    home: &[Slots; Season::TEAMS],
+    away: &[Slots; Season::TEAMS],
+    meets: &[Slots; Season::PLACES],
+    words: &mut [Slots; Season::TEAMS],
 )
     requires { ⌜ (length (now words) ≡ mostTeams) × Given n t1 (tables (now home) (now away) (now meets)) × (t2 < 2 ^ n) ⌝ }
     ensures { λ _. ⌜ MasksOf (hosts n (xOf (now (meets .entry))) sides t1 t2) (now (words .exit)) n ⌝ }
@@ -109,7 +110,7 @@ fn one_if(b: bool) -> u32
 }
 
 // How many of the first n masks have slot k.
-fn column(words: &[u64; Season::TEAMS], n: usize, k: usize) -> u32
+fn column(words: &[Slots; Season::TEAMS], n: usize, k: usize) -> u32
     requires { ⌜ (n ≤ mostTeams) × (k < mostSlots) ⌝ }
     ensures { λ r. ⌜ r ≡ sumTo (λ i. bit (getD (now (words .entry)) i 0) k) n ⌝ }
 {
@@ -126,10 +127,10 @@ fn column(words: &[u64; Season::TEAMS], n: usize, k: usize) -> u32
 fn fill_columns(
     kmin: u8,
     kmax: u8,
-    s: u64,
+    s: Slots,
     n: usize,
     p: usize,
-    words: &[u64; Season::TEAMS],
+    words: &[Slots; Season::TEAMS],
     out: &mut [u32],
 )
     requires { ⌜ (n ≤ mostTeams) × (p ≤ mostSlots) × (length (now out) ≡ size p s) ⌝ }
@@ -151,9 +152,9 @@ pub fn fill_ca4(
     c: Constraint,
     n: usize,
     p: usize,
-    home: &[u64; Season::TEAMS],
-    away: &[u64; Season::TEAMS],
-    meets: &[u64; Season::PLACES],
+    home: &[Slots; Season::TEAMS],
+    away: &[Slots; Season::TEAMS],
+    meets: &[Slots; Season::PLACES],
     out: &mut [u32],
 )
     requires { ⌜ Ready n p c (tables (now home) (now away) (now meets)) (now out) × (c .kind ≡ 14) ⌝ }
@@ -168,7 +169,7 @@ pub fn fill_ca4(
         );
         return;
     }
-    let mut words = [0u64; Season::TEAMS];
+    let mut words = [masks::NONE; Season::TEAMS];
     lay_hosted(sides, c.t1, c.t2, n, home, away, meets, &mut words);
     fill_columns(c.kmin, c.kmax, c.s, n, p, &words, out);
 }
@@ -178,9 +179,9 @@ pub fn fill_ga1(
     c: Constraint,
     n: usize,
     p: usize,
-    home: &[u64; Season::TEAMS],
-    away: &[u64; Season::TEAMS],
-    meets: &[u64; Season::PLACES],
+    home: &[Slots; Season::TEAMS],
+    away: &[Slots; Season::TEAMS],
+    meets: &[Slots; Season::PLACES],
     out: &mut [u32],
 )
     requires { ⌜ Ready n p c (tables (now home) (now away) (now meets)) (now out) × (c .kind ≡ 21) ⌝ }

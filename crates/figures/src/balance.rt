@@ -17,15 +17,16 @@ use crate::opponents::against;
 use groups::Members;
 use robinx::Constraint;
 use robinx::Season;
+use robinx::Slots;
 
 // The running counts of a team's games of the sides against the group, as row r of the table.
 fn lay_games(
     sides: u8,
     group: u32,
     n: usize,
-    home: &[u64; Season::TEAMS],
-    away: &[u64; Season::TEAMS],
-    meets: &[u64; Season::PLACES],
+    home: &[Slots; Season::TEAMS],
+    away: &[Slots; Season::TEAMS],
+    meets: &[Slots; Season::PLACES],
     t: usize,
     rows: &mut [u8; masks::PLACES],
     r: usize,
@@ -62,9 +63,9 @@ fn imbalance(
     group: u32,
     kmax: u8,
     n: usize,
-    home: &[u64; Season::TEAMS],
-    away: &[u64; Season::TEAMS],
-    meets: &[u64; Season::PLACES],
+    home: &[Slots; Season::TEAMS],
+    away: &[Slots; Season::TEAMS],
+    meets: &[Slots; Season::PLACES],
     e: &[u8; Season::SLOTS],
     rows: &mut [u8; masks::PLACES],
     t: usize,
@@ -82,9 +83,9 @@ fn fill_teams(
     group: u32,
     kmax: u8,
     n: usize,
-    home: &[u64; Season::TEAMS],
-    away: &[u64; Season::TEAMS],
-    meets: &[u64; Season::PLACES],
+    home: &[Slots; Season::TEAMS],
+    away: &[Slots; Season::TEAMS],
+    meets: &[Slots; Season::PLACES],
     e: &[u8; Season::SLOTS],
     rows: &mut [u8; masks::PLACES],
     out: &mut [u32],
@@ -106,9 +107,9 @@ pub fn fill_fa1(
     c: Constraint,
     n: usize,
     p: usize,
-    home: &[u64; Season::TEAMS],
-    away: &[u64; Season::TEAMS],
-    meets: &[u64; Season::PLACES],
+    home: &[Slots; Season::TEAMS],
+    away: &[Slots; Season::TEAMS],
+    meets: &[Slots; Season::PLACES],
     out: &mut [u32],
 )
     requires { ⌜ Ready n p c (tables (now home) (now away) (now meets)) (now out) × (c .kind ≡ 41) ⌝ }
@@ -125,9 +126,9 @@ fn lay_teams(
     sides: u8,
     group: u32,
     n: usize,
-    home: &[u64; Season::TEAMS],
-    away: &[u64; Season::TEAMS],
-    meets: &[u64; Season::PLACES],
+    home: &[Slots; Season::TEAMS],
+    away: &[Slots; Season::TEAMS],
+    meets: &[Slots; Season::PLACES],
     rows: &mut [u8; masks::PLACES],
 )
     requires { ⌜ (length (now rows) ≡ places) × Given n group (tables (now home) (now away) (now meets)) ⌝ }
@@ -188,9 +189,9 @@ pub fn fill_fa2(
     c: Constraint,
     n: usize,
     p: usize,
-    home: &[u64; Season::TEAMS],
-    away: &[u64; Season::TEAMS],
-    meets: &[u64; Season::PLACES],
+    home: &[Slots; Season::TEAMS],
+    away: &[Slots; Season::TEAMS],
+    meets: &[Slots; Season::PLACES],
     out: &mut [u32],
 )
     requires { ⌜ Ready n p c (tables (now home) (now away) (now meets)) (now out) × (c .kind ≡ 42) ⌝ }

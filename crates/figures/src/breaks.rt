@@ -21,9 +21,10 @@ use masks::breaks_in;
 use masks::union;
 use robinx::Constraint;
 use robinx::Season;
+use robinx::Slots;
 
 // The breaks of a side in the slots of s, where it is asked for.
-fn breaks_if(asked: bool, side: u64, all: u64, s: u64) -> u32
+fn breaks_if(asked: bool, side: Slots, all: Slots, s: Slots) -> u32
     requires { ⌜ Within side all ⌝ }
     ensures { λ r. ⌜ (r ≡ only asked (over mostSlots s (λ k. only (isBreak side all k) 1))) × (r ≤ mostSlots) ⌝ }
 {
@@ -35,9 +36,9 @@ fn team_breaks(
     c: Constraint,
     n: usize,
     p: usize,
-    home: &[u64; Season::TEAMS],
-    away: &[u64; Season::TEAMS],
-    meets: &[u64; Season::PLACES],
+    home: &[Slots; Season::TEAMS],
+    away: &[Slots; Season::TEAMS],
+    meets: &[Slots; Season::PLACES],
     t: usize,
 ) -> u32
     requires { ⌜ (n ≤ mostTeams) × (p ≤ mostSlots) × (t < n) × (obeys n p c ≡ true) × Tied n (tables (now home) (now away) (now meets)) ⌝ }
@@ -66,9 +67,9 @@ pub fn fill_breaks(
     c: Constraint,
     n: usize,
     p: usize,
-    home: &[u64; Season::TEAMS],
-    away: &[u64; Season::TEAMS],
-    meets: &[u64; Season::PLACES],
+    home: &[Slots; Season::TEAMS],
+    away: &[Slots; Season::TEAMS],
+    meets: &[Slots; Season::PLACES],
     out: &mut [u32],
 )
     requires { ⌜ Ready n p c (tables (now home) (now away) (now meets)) (now out) × (c .kind ≡ 31) ⌝ }
@@ -92,9 +93,9 @@ fn group_breaks(
     c: Constraint,
     n: usize,
     p: usize,
-    home: &[u64; Season::TEAMS],
-    away: &[u64; Season::TEAMS],
-    meets: &[u64; Season::PLACES],
+    home: &[Slots; Season::TEAMS],
+    away: &[Slots; Season::TEAMS],
+    meets: &[Slots; Season::PLACES],
 ) -> u32
     requires { ⌜ (n ≤ mostTeams) × (p ≤ mostSlots) × (obeys n p c ≡ true) × Tied n (tables (now home) (now away) (now meets)) ⌝ }
     ensures { λ r. ⌜ r ≡ sumTo (λ t. only (has (c .t1) t) (breaks n p c (xOf (now (meets .entry))) t)) n ⌝ }
@@ -113,9 +114,9 @@ pub fn fill_all_breaks(
     c: Constraint,
     n: usize,
     p: usize,
-    home: &[u64; Season::TEAMS],
-    away: &[u64; Season::TEAMS],
-    meets: &[u64; Season::PLACES],
+    home: &[Slots; Season::TEAMS],
+    away: &[Slots; Season::TEAMS],
+    meets: &[Slots; Season::PLACES],
     out: &mut [u32],
 )
     requires { ⌜ Ready n p c (tables (now home) (now away) (now meets)) (now out) × (c .kind ≡ 32) ⌝ }

@@ -16,6 +16,7 @@ use masks::lay_at;
 use masks::runs;
 use robinx::Constraint;
 use robinx::Season;
+use robinx::Slots;
 
 // The teams against which games count: all of them in CA1, those of T2 in CA2 and CA3.
 fn rivals(c: Constraint, n: usize) -> u32
@@ -34,11 +35,11 @@ fn rivals(c: Constraint, n: usize) -> u32
 fn counted(
     c: Constraint,
     n: usize,
-    home: &[u64; Season::TEAMS],
-    away: &[u64; Season::TEAMS],
-    meets: &[u64; Season::PLACES],
+    home: &[Slots; Season::TEAMS],
+    away: &[Slots; Season::TEAMS],
+    meets: &[Slots; Season::PLACES],
     t: usize,
-) -> u64
+) -> Slots
     requires { ⌜ (t < n) × (1 ≤ c .mode) × (11 ≤ c .kind) × (c .kind ≤ 13) × Given n (c .t2) (tables (now home) (now away) (now meets)) ⌝ }
     ensures { λ r. ⌜ MaskOf (counted n c (xOf (now (meets .entry))) t) r ⌝ }
 {
@@ -50,9 +51,9 @@ pub fn fill_counts(
     c: Constraint,
     n: usize,
     p: usize,
-    home: &[u64; Season::TEAMS],
-    away: &[u64; Season::TEAMS],
-    meets: &[u64; Season::PLACES],
+    home: &[Slots; Season::TEAMS],
+    away: &[Slots; Season::TEAMS],
+    meets: &[Slots; Season::PLACES],
     out: &mut [u32],
 )
     requires { ⌜ Ready n p c (tables (now home) (now away) (now meets)) (now out) × (11 ≤ c .kind) × (c .kind ≤ 12) ⌝ }
@@ -72,7 +73,7 @@ pub fn fill_counts(
 }
 
 // How far the mask's counts in the runs of w of the first p slots are outside kmin .. kmax, summed.
-fn runs_of(c: Constraint, p: usize, mask: u64, rows: &mut [u8; masks::PLACES]) -> u32
+fn runs_of(c: Constraint, p: usize, mask: Slots, rows: &mut [u8; masks::PLACES]) -> u32
     requires { ⌜ (p ≤ mostSlots) × FromZero (now rows) ⌝ }
     ensures { λ r. ⌜ (r ≡ offRuns p c (bit mask)) × FromZero (now (rows .exit)) ⌝ }
 {
@@ -89,9 +90,9 @@ pub fn fill_runs(
     c: Constraint,
     n: usize,
     p: usize,
-    home: &[u64; Season::TEAMS],
-    away: &[u64; Season::TEAMS],
-    meets: &[u64; Season::PLACES],
+    home: &[Slots; Season::TEAMS],
+    away: &[Slots; Season::TEAMS],
+    meets: &[Slots; Season::PLACES],
     out: &mut [u32],
 )
     requires { ⌜ Ready n p c (tables (now home) (now away) (now meets)) (now out) × (c .kind ≡ 13) ⌝ }

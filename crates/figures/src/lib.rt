@@ -14,15 +14,16 @@ ghost use Rattle.timetable.specs.Tables.{tables, xOf};
 ghost use Rattle.figures.specs.Figures.{Ready};
 use robinx::Constraint;
 use robinx::Season;
+use robinx::Slots;
 
 // Capacity: CA1 to CA4.
 fn fill_capacity(
     c: Constraint,
     n: usize,
     p: usize,
-    home: &[u64; Season::TEAMS],
-    away: &[u64; Season::TEAMS],
-    meets: &[u64; Season::PLACES],
+    home: &[Slots; Season::TEAMS],
+    away: &[Slots; Season::TEAMS],
+    meets: &[Slots; Season::PLACES],
     out: &mut [u32],
 )
     requires { ⌜ Ready n p c (tables (now home) (now away) (now meets)) (now out) × (10 ≤ c .kind) × (c .kind ≤ 19) ⌝ }
@@ -43,9 +44,9 @@ fn fill_break(
     c: Constraint,
     n: usize,
     p: usize,
-    home: &[u64; Season::TEAMS],
-    away: &[u64; Season::TEAMS],
-    meets: &[u64; Season::PLACES],
+    home: &[Slots; Season::TEAMS],
+    away: &[Slots; Season::TEAMS],
+    meets: &[Slots; Season::PLACES],
     out: &mut [u32],
 )
     requires { ⌜ Ready n p c (tables (now home) (now away) (now meets)) (now out) × (30 ≤ c .kind) × (c .kind ≤ 39) ⌝ }
@@ -64,9 +65,9 @@ fn fill_fairness(
     c: Constraint,
     n: usize,
     p: usize,
-    home: &[u64; Season::TEAMS],
-    away: &[u64; Season::TEAMS],
-    meets: &[u64; Season::PLACES],
+    home: &[Slots; Season::TEAMS],
+    away: &[Slots; Season::TEAMS],
+    meets: &[Slots; Season::PLACES],
     out: &mut [u32],
 )
     requires { ⌜ Ready n p c (tables (now home) (now away) (now meets)) (now out) × (40 ≤ c .kind) × (c .kind ≤ 49) ⌝ }
@@ -85,9 +86,9 @@ pub fn fill(
     c: Constraint,
     n: usize,
     p: usize,
-    home: &[u64; Season::TEAMS],
-    away: &[u64; Season::TEAMS],
-    meets: &[u64; Season::PLACES],
+    home: &[Slots; Season::TEAMS],
+    away: &[Slots; Season::TEAMS],
+    meets: &[Slots; Season::PLACES],
     out: &mut [u32],
 )
     requires { ⌜ Ready n p c (tables (now home) (now away) (now meets)) (now out) ⌝ }

@@ -13,16 +13,22 @@ use crate::measure::asks_home;
 use groups::Members;
 use masks::union;
 use robinx::Season;
+use robinx::Slots;
 
 // The mask if it is asked for, else none.
-fn only_if(asked: bool, mask: u64) -> u64
+fn only_if(asked: bool, mask: Slots) -> Slots
     ensures { λ r. ⌜ r ≡ only asked mask ⌝ }
 {
-    if asked { mask } else { 0 }
+    if asked { mask } else { masks::NONE }
 }
 
 // The slots of the team's games of the sides, against any team.
-pub fn played(home: &[u64; Season::TEAMS], away: &[u64; Season::TEAMS], sides: u8, t: usize) -> u64
+pub fn played(
+    home: &[Slots; Season::TEAMS],
+    away: &[Slots; Season::TEAMS],
+    sides: u8,
+    t: usize,
+) -> Slots
     requires { ⌜ t < mostTeams ⌝ }
     ensures { λ r. ⌜ r ≡ ofSides sides (getD (now (home .entry)) t 0) (getD (now (away .entry)) t 0) ⌝ }
 {
@@ -33,11 +39,11 @@ pub fn played(home: &[u64; Season::TEAMS], away: &[u64; Season::TEAMS], sides: u
 }
 
 // The union of the words base, base + step, .., of the teams of the group: from one member to the next.
-fn gather(meets: &[u64; Season::PLACES], group: u32, base: usize, step: usize) -> u64
+fn gather(meets: &[Slots; Season::PLACES], group: u32, base: usize, step: usize) -> Slots
     requires { ⌜ base + (mostTeams - 1) * step < mostPlaces ⌝ }
     ensures { λ r. ⌜ Union (now (meets .entry)) group base step mostTeams r ⌝ }
 {
-    let mut u: u64 = 0;
+    let mut u = masks::NONE;
     let mut m = Members::of(group);
     while m.rest != 0 {
         m = m.next();
@@ -48,31 +54,31 @@ fn gather(meets: &[u64; Season::PLACES], group: u32, base: usize, step: usize) -
 
 fn gather_if(
     asked: bool,
-    meets: &[u64; Season::PLACES],
+    meets: &[Slots; Season::PLACES],
     group: u32,
     base: usize,
     step: usize,
-) -> u64
+) -> Slots
     requires { ⌜ base + (mostTeams - 1) * step < mostPlaces ⌝ }
     ensures { λ r. ⌜ UnionIf asked (now (meets .entry)) group base step mostTeams r ⌝ }
 {
     if asked {
         gather(meets, group, base, step)
     } else {
-        0
+        masks::NONE
     }
 }
 
 // The slots of the team's games of the sides, against the teams of the group.
 pub fn against(
-    meets: &[u64; Season::PLACES],
-    home: &[u64; Season::TEAMS],
-    away: &[u64; Season::TEAMS],
+    meets: &[Slots; Season::PLACES],
+    home: &[Slots; Season::TEAMS],
+    away: &[Slots; Season::TEAMS],
     sides: u8,
     group: u32,
     t: usize,
     n: usize,
-) -> u64
+) -> Slots
     requires { ⌜ (t < n) × Given n group (tables (now home) (now away) (now meets)) ⌝ }
     ensures { λ r. ⌜ MaskOf (gamesAgainst n (xOf (now (meets .entry))) sides group t) r ⌝ }
 {

@@ -15,9 +15,10 @@ use masks::front;
 use masks::union;
 use robinx::Constraint;
 use robinx::Season;
+use robinx::Slots;
 
 // Of teams i and j.
-fn pair_closeness(meets: &[u64; Season::PLACES], w: u8, p: usize, i: usize, j: usize) -> u32
+fn pair_closeness(meets: &[Slots; Season::PLACES], w: u8, p: usize, i: usize, j: usize) -> u32
     requires { ⌜ (p ≤ mostSlots) × (i < mostTeams) × (j < mostTeams) ⌝ }
     ensures { λ r. ⌜ r ≡ closeness (xOf (now (meets .entry))) w p i j ⌝ }
 {
@@ -32,7 +33,7 @@ fn pair_closeness(meets: &[u64; Season::PLACES], w: u8, p: usize, i: usize, j: u
 
 // The pairs of i with higher members, from place e on; the place behind them.
 fn fill_row(
-    meets: &[u64; Season::PLACES],
+    meets: &[Slots; Season::PLACES],
     group: u32,
     w: u8,
     n: usize,
@@ -59,9 +60,9 @@ pub fn fill_separation(
     c: Constraint,
     n: usize,
     p: usize,
-    home: &[u64; Season::TEAMS],
-    away: &[u64; Season::TEAMS],
-    meets: &[u64; Season::PLACES],
+    home: &[Slots; Season::TEAMS],
+    away: &[Slots; Season::TEAMS],
+    meets: &[Slots; Season::PLACES],
     out: &mut [u32],
 )
     requires { ⌜ Ready n p c (tables (now home) (now away) (now meets)) (now out) × (c .kind ≡ 51) ⌝ }

@@ -3,6 +3,7 @@ ghost use mathlib.Core.Path.{_≡_};
 ghost use Prim.Native.Nat.{_+_, _-_, _%_, _<_, _≤_, _^_, min, max};
 ghost use lib.Bits.{bitOr};
 ghost use lib.Count.{ones};
+ghost use lib.Dec.{eqb, leb};
 ghost use Rattle.robinx.specs.Season.{mostSlots};
 ghost use Rattle.robinx.specs.Sums.{only, sumTo, dist};
 ghost use Rattle.robinx.specs.Groups.{bit, has, reaches};
@@ -10,11 +11,41 @@ ghost use Rattle.robinx.specs.Deviations.{over, outside, tooClose};
 ghost use Rattle.masks.specs.Masks.{joined, without, Within, isBreak, Breaks};
 ghost use Rattle.masks.specs.Rows.{places, marked, rowAt, upTo, laid, laidAt, packed, byte, farthestTo, runsTo};
 use robinx::Season;
+use robinx::Slots;
 
-pub type Slots = u64;
+// No slot.
+pub const NONE: Slots = 0;
 
 // A table of rows has a place for each slot of each team.
 pub const PLACES: usize = Season::TEAMS * Season::SLOTS;
+
+// The mask that a season writes as a number of eight bytes.
+pub fn of_number(v: u64) -> Slots
+    ensures { λ r. ⌜ r ≡ v ⌝ }
+{
+    v
+}
+
+// The mask has no slot.
+pub fn is_none(s: Slots) -> bool
+    ensures { λ r. ⌜ r ≡ eqb s 0 ⌝ }
+{
+    s == 0
+}
+
+// It has one at least.
+pub fn is_some(s: Slots) -> bool
+    ensures { λ r. ⌜ r ≡ leb 1 s ⌝ }
+{
+    1 <= s
+}
+
+// Read as a number it is at most k.
+pub fn up_to(s: Slots, k: u8) -> bool
+    ensures { λ r. ⌜ r ≡ leb s k ⌝ }
+{
+    s <= k as u64
+}
 
 // The first p slots.
 pub fn all(p: usize) -> Slots
@@ -22,6 +53,14 @@ pub fn all(p: usize) -> Slots
     ensures { λ r. ⌜ r ≡ 2 ^ p - 1 ⌝ }
 {
     u64::MAX >> (Season::SLOTS - p)
+}
+
+// It has slots among the first p only.
+pub fn is_among(s: Slots, p: usize) -> bool
+    requires { ⌜ (1 ≤ p) × (p ≤ mostSlots) ⌝ }
+    ensures { λ r. ⌜ r ≡ leb s (2 ^ p - 1) ⌝ }
+{
+    s <= all(p)
 }
 
 // How many slots the mask has.

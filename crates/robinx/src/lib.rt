@@ -25,6 +25,9 @@ impl Season {
     pub const PLACES: usize = Season::TEAMS * Season::TEAMS;
 }
 
+// A set of slots: those of a constraint, or of a team's games. Crate `masks` has all that is done with one.
+pub type Slots = u64;
+
 // A constraint: the eight bytes of its head, the three groups of its body.
 pub struct Constraint {
     pub kind: u8,
@@ -37,7 +40,7 @@ pub struct Constraint {
     pub w: u8,
     pub t1: u32,
     pub t2: u32,
-    pub s: u64,
+    pub s: Slots,
 }
 
 // What a kind asks of a field, besides that it is in range: that it is 0, nothing, that it is at most kmax, that it is not 0. A group that

@@ -89,7 +89,7 @@ fn constraint_from(s: &[u8], h: usize, b: usize) -> Constraint
         w: s[h + 7],
         t1: word(s, b),
         t2: word(s, b + 4),
-        s: long(s, b + 8),
+        s: masks::of_number(long(s, b + 8)),
     }
 }
 

@@ -11,6 +11,7 @@ use groups::size_of;
 use robinx::Constraint;
 use robinx::Field;
 use robinx::Shape;
+use robinx::Slots;
 
 // v is in low .. high.
 fn in_range(low: u64, high: u64, v: u64) -> bool
@@ -36,6 +37,25 @@ fn holds(f: Field, kmax: u8, high: u64, v: u64) -> bool
     ensures { λ r. ⌜ r ≡ holds f kmax high v ⌝ }
 {
     asks(f, kmax, v) & (v <= high)
+}
+
+// The same of S, whose slots are among the first p.
+fn slots_ask(f: Field, kmax: u8, s: Slots) -> bool
+    ensures { λ r. ⌜ r ≡ asked f kmax s ⌝ }
+{
+    match f {
+        Field::Zero => masks::is_none(s),
+        Field::Any => true,
+        Field::UpToKmax => masks::up_to(s, kmax),
+        Field::Some => masks::is_some(s),
+    }
+}
+
+fn slots_hold(f: Field, kmax: u8, p: usize, s: Slots) -> bool
+    requires { ⌜ (1 ≤ p) × (p ≤ mostSlots) ⌝ }
+    ensures { λ r. ⌜ r ≡ holds f kmax (2 ^ p - 1) s ⌝ }
+{
+    slots_ask(f, kmax, s) & masks::is_among(s, p)
 }
 
 // The function is one of 1 to 5, and squares only where the kind allows it.
@@ -69,7 +89,7 @@ fn groups_keep(t2: Field, s: Field, c: Constraint, n: usize, p: usize) -> bool
     let teams = groups::everyone(n) as u64;
     in_range(1, teams, c.t1 as u64)
         & holds(t2, c.kmax, teams, c.t2 as u64)
-        & holds(s, c.kmax, masks::all(p), c.s)
+        & slots_hold(s, c.kmax, p, c.s)
 }
 
 // One of the groups has more than one team, where the kind asks it.

@@ -10,6 +10,7 @@ ghost use Rattle.robinx.specs.Sums.{only};
 ghost use Rattle.robinx.specs.Season.{mostTeams, mostSlots};
 ghost use Rattle.timetable.specs.Tables.{tables, cell, busy, joinedAt, withoutAt, takenOutOf, Teams, InRange, Fits, Empty, Tried, Builds};
 use robinx::Season;
+use robinx::Slots;
 
 fn either(a: bool, b: bool) -> bool
     ensures { λ r. ⌜ r ≡ a || b ⌝ }
@@ -24,7 +25,7 @@ fn both(a: bool, b: bool) -> bool
 }
 
 // Team t has a game in slot k.
-fn busy(home: &[u64; Season::TEAMS], away: &[u64; Season::TEAMS], t: usize, k: u64) -> bool
+fn busy(home: &[Slots; Season::TEAMS], away: &[Slots; Season::TEAMS], t: usize, k: u64) -> bool
     requires { ⌜ (t < mostTeams) × (k < mostSlots) ⌝ }
     ensures { λ r. ⌜ r ≡ busy (now (home .entry)) (now (away .entry)) t k ⌝ }
 {
@@ -32,14 +33,14 @@ fn busy(home: &[u64; Season::TEAMS], away: &[u64; Season::TEAMS], t: usize, k: u
 }
 
 // Slot k of a team, set and cleared.
-fn join_row(row: &mut [u64; Season::TEAMS], t: usize, k: u64)
+fn join_row(row: &mut [Slots; Season::TEAMS], t: usize, k: u64)
     requires { ⌜ (t < mostTeams) × (k < mostSlots) ⌝ }
     ensures { λ _. ⌜ now (row .exit) ≡ joinedAt (now (row .entry)) t k ⌝ }
 {
     row[t] = masks::joined(row[t], k);
 }
 
-fn clear_row(row: &mut [u64; Season::TEAMS], t: usize, k: u64)
+fn clear_row(row: &mut [Slots; Season::TEAMS], t: usize, k: u64)
     requires { ⌜ (t < mostTeams) × (k < mostSlots) ⌝ }
     ensures { λ _. ⌜ now (row .exit) ≡ withoutAt (now (row .entry)) t k ⌝ }
 {
@@ -47,7 +48,7 @@ fn clear_row(row: &mut [u64; Season::TEAMS], t: usize, k: u64)
 }
 
 // .. of i hosting j.
-fn join_cell(meets: &mut [u64; Season::PLACES], i: usize, j: usize, k: u64)
+fn join_cell(meets: &mut [Slots; Season::PLACES], i: usize, j: usize, k: u64)
     requires { ⌜ (i < mostTeams) × (j < mostTeams) × (k < mostSlots) ⌝ }
     ensures { λ _. ⌜ now (meets .exit) ≡ joinedAt (now (meets .entry)) (cell i j) k ⌝ }
 {
@@ -55,7 +56,7 @@ fn join_cell(meets: &mut [u64; Season::PLACES], i: usize, j: usize, k: u64)
     meets[q] = masks::joined(meets[q], k);
 }
 
-fn clear_cell(meets: &mut [u64; Season::PLACES], i: usize, j: usize, k: u64)
+fn clear_cell(meets: &mut [Slots; Season::PLACES], i: usize, j: usize, k: u64)
     requires { ⌜ (i < mostTeams) × (j < mostTeams) × (k < mostSlots) ⌝ }
     ensures { λ _. ⌜ now (meets .exit) ≡ withoutAt (now (meets .entry)) (cell i j) k ⌝ }
 {
@@ -65,9 +66,9 @@ fn clear_cell(meets: &mut [u64; Season::PLACES], i: usize, j: usize, k: u64)
 
 // Puts i at home against j into slot k, or says that one of them is busy there and changes nothing.
 pub fn place(
-    home: &mut [u64; Season::TEAMS],
-    away: &mut [u64; Season::TEAMS],
-    meets: &mut [u64; Season::PLACES],
+    home: &mut [Slots; Season::TEAMS],
+    away: &mut [Slots; Season::TEAMS],
+    meets: &mut [Slots; Season::PLACES],
     i: usize,
     j: usize,
     k: u64,
@@ -87,9 +88,9 @@ pub fn place(
 
 // Takes i at home against j out of slot k.
 pub fn lift(
-    home: &mut [u64; Season::TEAMS],
-    away: &mut [u64; Season::TEAMS],
-    meets: &mut [u64; Season::PLACES],
+    home: &mut [Slots; Season::TEAMS],
+    away: &mut [Slots; Season::TEAMS],
+    meets: &mut [Slots; Season::PLACES],
     i: usize,
     j: usize,
     k: u64,
@@ -107,9 +108,9 @@ pub fn lift(
 fn put(
     homes: &[u8],
     aways: &[u8],
-    home: &mut [u64; Season::TEAMS],
-    away: &mut [u64; Season::TEAMS],
-    meets: &mut [u64; Season::PLACES],
+    home: &mut [Slots; Season::TEAMS],
+    away: &mut [Slots; Season::TEAMS],
+    meets: &mut [Slots; Season::PLACES],
     g: usize,
     b: u8,
 ) -> bool
@@ -134,9 +135,9 @@ fn put(
 fn take_out(
     homes: &[u8],
     aways: &[u8],
-    home: &mut [u64; Season::TEAMS],
-    away: &mut [u64; Season::TEAMS],
-    meets: &mut [u64; Season::PLACES],
+    home: &mut [Slots; Season::TEAMS],
+    away: &mut [Slots; Season::TEAMS],
+    meets: &mut [Slots; Season::PLACES],
     g: usize,
     b: u8,
 )
@@ -186,9 +187,9 @@ pub fn build(
     aways: &[u8],
     sheet: &[u8],
     p: usize,
-    home: &mut [u64; Season::TEAMS],
-    away: &mut [u64; Season::TEAMS],
-    meets: &mut [u64; Season::PLACES],
+    home: &mut [Slots; Season::TEAMS],
+    away: &mut [Slots; Season::TEAMS],
+    meets: &mut [Slots; Season::PLACES],
 ) -> Built
     requires { ⌜ Teams mostTeams (now homes) (now aways) × (length (now sheet) ≡ length (now homes)) × (p ≤ mostSlots)
         × Empty (tables (now home) (now away) (now meets)) ⌝ }
@@ -219,9 +220,9 @@ pub fn reslot(
     homes: &[u8],
     aways: &[u8],
     sheet: &[u8],
-    home: &mut [u64; Season::TEAMS],
-    away: &mut [u64; Season::TEAMS],
-    meets: &mut [u64; Season::PLACES],
+    home: &mut [Slots; Season::TEAMS],
+    away: &mut [Slots; Season::TEAMS],
+    meets: &mut [Slots; Season::PLACES],
     g: usize,
     b: u8,
 ) -> bool
@@ -248,9 +249,9 @@ pub fn swap(
     homes: &[u8],
     aways: &[u8],
     sheet: &[u8],
-    home: &mut [u64; Season::TEAMS],
-    away: &mut [u64; Season::TEAMS],
-    meets: &mut [u64; Season::PLACES],
+    home: &mut [Slots; Season::TEAMS],
+    away: &mut [Slots; Season::TEAMS],
+    meets: &mut [Slots; Season::PLACES],
     g: usize,
     h: usize,
 ) -> bool

@@ -64,9 +64,13 @@ add-long c = search needs
 long-requires : tie.Need-long-requires
 long-requires c κs = search needs
 
+of-number-requires : tie.Need-of-number-requires
+of-number-requires c κs = search needs
+
 returns : tie.Need-returns
 unfolding constraintFrom
-returns c = rw (c .before .before .word .ensures, c .before .word2 .ensures, c .long .ensures)
+returns c =
+    rw (c .before .before .before .word .ensures, c .before .before .word2 .ensures, c .of-number .ensures, c .before .long .ensures)
 
 pub constraint-from-spec : {M : Type 1} → statement M
 constraint-from-spec =
@@ -92,4 +96,5 @@ constraint-from-spec =
     word-requires-2
     add-long
     long-requires
+    of-number-requires
     returns)

@@ -22,21 +22,17 @@ cast-holds c = search needs
 holds-requires : tie.Need-holds-requires
 holds-requires c κs = search needs
 
-all-requires : tie.Need-all-requires
-all-requires c κs = search needs
-
-holds-requires-2 : tie.Need-holds-requires-2
-holds-requires-2 c κs = search needs
+slots-hold-requires : tie.Need-slots-hold-requires
+slots-hold-requires c κs = search needs
 
 returns : tie.Need-returns
 unfolding groupsKeep
 returns c =
     rw (
-      c .before .before .before .before .in-range .ensures,
-      c .before .before .holds .ensures,
-      c .holds2 .ensures,
-      c .before .before .before .before .before .before .everyone .ensures,
-      c .before .all .ensures,
+      c .before .before .before .in-range .ensures,
+      c .before .holds .ensures,
+      c .slots-hold .ensures,
+      c .before .before .before .before .before .everyone .ensures,
     )
 
 pub groups-keep-spec : {M : Type 1} → statement M
@@ -49,6 +45,5 @@ groups-keep-spec =
     in-range-requires
     cast-holds
     holds-requires
-    all-requires
-    holds-requires-2
+    slots-hold-requires
     returns)
