@@ -12,15 +12,15 @@ use Rattle.robinx.specs.Season.{Instance}
 use Rattle.robinx.specs.Timetable.{X}
 use Rattle.robinx.specs.Books.{penaltyAt, total}
 use Rattle.robinx.specs.Calls.{stretchAt, gained, reworkedPenalty, movedTotal}
-use Rattle.robinx.specs.declared.Totals.{Totals}
+use Rattle.totals.specs.declared.Totals.{Totals}
 use Rattle.robinx.specs.declared.Reply.{Reply}
 use Rattle.robinx.proofs.Lengths.{length-listTo, list-beyond}
-use Rattle.books.specs.Touched.{touchedByMove}
+use Rattle.touch.specs.Touched.{touchedByMove}
 use Rattle.books.specs.Walk.{isTouched, stored, Reworked}
 use Rattle.books.specs.Answer.{replyOf, Opened, Answered}
 use Rattle.books.specs.declared.walk.Touch.{Touch}
 use Rattle.books.specs.declared.walk.Moved.{Moved}
-use Rattle.books.proofs.Running.{hard-change, soft-change}
+use Rattle.totals.proofs.Running.{hard-change, soft-change}
 
 -- a list of two
 two : (l : List ℕ) → length l ≡ 2 → (a : ℕ) × (b : ℕ) × (l ≡ a ∷ b ∷ [])

@@ -18,13 +18,13 @@ use Rattle.robinx.specs.declared.Season.{Season}
 use Rattle.robinx.proofs.Sums.{sum-add, any-none}
 use Rattle.robinx.proofs.Limits.{obeyed}
 use Rattle.robinx.proofs.Bounds.{sum-small}
-use Rattle.season.specs.Counted.{onesIn}
+use Rattle.rules.specs.Counted.{onesIn}
 use Rattle.robinx.specs.Kinds.{formAt}
-use Rattle.season.proofs.Read.{InRange, in-range, teams-read, slots-read, constraints-read, sizes-tested}
-use Rattle.season.proofs.Members.{entries-counted}
-use Rattle.timetable.specs.Tables.{Tables, xOf}
-use Rattle.figures.specs.Figures.{Ready}
-use Rattle.books.specs.Running.{Adds}
+use Rattle.reader.proofs.Read.{InRange, in-range, teams-read, slots-read, constraints-read, sizes-tested}
+use Rattle.rules.proofs.Members.{entries-counted}
+use Rattle.tables.specs.Tables.{Tables, xOf}
+use Rattle.opponents.specs.Figures.{Ready}
+use Rattle.totals.specs.Running.{Adds}
 use Rattle.books.specs.Walk.{Given, isTouched}
 use Rattle.books.specs.declared.walk.Touch.{Touch}
 use Rattle.books.specs.declared.walk.Moved.{Moved}

@@ -11,12 +11,12 @@ use Rattle.robinx.specs.Season.{Instance}
 use Rattle.robinx.specs.Timetable.{X}
 use Rattle.robinx.specs.Books.{deviationsAt, penaltyAt, entriesAt, startAt, allEntries}
 use Rattle.robinx.specs.Calls.{stretchAt, reworkedStretch, reworkedPenalty, gained, lost}
-use Rattle.robinx.specs.declared.Totals.{Totals}
+use Rattle.totals.specs.declared.Totals.{Totals}
 use Rattle.robinx.proofs.Lengths.{length-deviations}
-use Rattle.books.specs.Running.{Holds, Adds}
+use Rattle.totals.specs.Running.{Holds, Adds}
 use Rattle.books.specs.Walk.{Reworked}
 use Rattle.books.specs.declared.walk.Moved.{Moved}
-use Rattle.books.proofs.Running.{gathered, holds-more, holds-same, gathered-more, gathered-same}
+use Rattle.totals.proofs.Running.{gathered, holds-more, holds-same, gathered-more, gathered-same}
 use Rattle.books.proofs.Laid.{Laid, laid-none, laid-fits, laid-more, laid-kept, laid-done, Listed, listed-old, listed-more, listed-kept}
 
 module _ (m : Instance) (t : ℕ → Bool) (x : X) (ledger₀ tally₀ : List ℕ) where

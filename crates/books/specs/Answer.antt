@@ -13,8 +13,8 @@ use Rattle.robinx.specs.Timetable.{X}
 use Rattle.robinx.specs.Books.{deviationsAt, penaltyAt, isHard, isSoft, total}
 use Rattle.robinx.specs.Calls.{accepted, reworkedStretch, reworkedPenalty, change, movedTotal}
 use Rattle.robinx.specs.declared.Reply.{Reply}
-use Rattle.robinx.specs.declared.Totals.{Totals}
-use Rattle.books.specs.Running.{Holds}
+use Rattle.totals.specs.declared.Totals.{Totals}
+use Rattle.totals.specs.Running.{Holds}
 
 -- the verdict by a count of the unplaced games
 abbrev pub verdictOf : ℕ → ℕ → ℕ

@@ -1,4 +1,2 @@
-pub mod Touched
-pub mod Running
 pub mod Walk
 pub mod Answer

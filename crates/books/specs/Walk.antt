@@ -12,10 +12,10 @@ use Rattle.robinx.specs.Calls.{reworkedStretch, reworkedPenalty, gained, lost}
 use Rattle.robinx.specs.Refusals.{sentence2, sentence5}
 use Rattle.robinx.specs.declared.Constraint.{Constraint}
 use Rattle.robinx.specs.declared.Season.{Season}
-use Rattle.season.specs.Sizes.{Measured}
-use Rattle.timetable.specs.Tables.{Tables, Tied}
-use Rattle.books.specs.Touched.{Possible, Named, touchedByMove}
-use Rattle.books.specs.Running.{Holds}
+use Rattle.reader.specs.Sizes.{Measured}
+use Rattle.tables.specs.Tables.{Tables, Tied}
+use Rattle.touch.specs.Touched.{Possible, Named, touchedByMove}
+use Rattle.totals.specs.Running.{Holds}
 use Rattle.books.specs.declared.walk.Touch.{Touch}
 use Rattle.books.specs.declared.walk.Moved.{Moved}
 

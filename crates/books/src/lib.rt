@@ -1,6 +1,4 @@
 // The ledger and the tally: a walk works out the touched constraints, all of them when the books are opened, and the totals follow.
-pub mod totals;
-pub mod touch;
 pub mod walk;
 
 ghost use mathlib.Core.Path.{_≡_};
@@ -12,13 +10,13 @@ ghost use mir.Syntax.{w64};
 ghost use mir.Val.{toZ};
 ghost use Rattle.robinx.specs.Season.{decode};
 ghost use Rattle.robinx.specs.Calls.{movedTotal, accepted};
-ghost use Rattle.timetable.specs.Tables.{tables, xOf};
+ghost use Rattle.tables.specs.Tables.{tables, xOf};
 ghost use Rattle.books.specs.Walk.{Given, Sound, isTouched, stored};
 ghost use Rattle.books.specs.Answer.{verdictOf, Opened, Answered};
 use robinx::Reply;
 use robinx::Season;
 use robinx::Slots;
-use robinx::Totals;
+use totals::Totals;
 use walk::Moved;
 use walk::Touch;
 use walk::everything;

@@ -6,23 +6,23 @@ ghost use lib.ListN.{length, getD, set};
 ghost use Rattle.robinx.specs.Season.{decode};
 ghost use Rattle.robinx.specs.Deviations.{deviations};
 ghost use Rattle.robinx.specs.Penalty.{penalty};
-ghost use Rattle.timetable.specs.Tables.{tables, xOf};
-ghost use Rattle.figures.specs.Figures.{Ready};
-ghost use Rattle.books.specs.Touched.{Possible};
-ghost use Rattle.books.specs.Running.{Adds};
+ghost use Rattle.tables.specs.Tables.{tables, xOf};
+ghost use Rattle.opponents.specs.Figures.{Ready};
+ghost use Rattle.touch.specs.Touched.{Possible};
+ghost use Rattle.totals.specs.Running.{Adds};
 ghost use Rattle.books.specs.Walk.{Given, Sound, isTouched, Reworked};
-use super::totals::added;
-use super::touch::Move;
-use super::touch::either_touches;
-use super::touch::no_move;
-use super::touch::passed_over;
-use super::touch::teams_of;
 use figures::fill;
+use kinds::form_of;
 use robinx::Constraint;
 use robinx::Season;
 use robinx::Slots;
-use robinx::Totals;
-use season::kinds::form_of;
+use totals::Totals;
+use totals::added;
+use touch::Move;
+use touch::either_touches;
+use touch::no_move;
+use touch::passed_over;
+use touch::teams_of;
 
 // What a call changes: everything, or what its moves touch. `teams` are the teams of the moves.
 pub struct Touch {
@@ -156,8 +156,8 @@ pub fn walk(
     let mut at = 0;
     let mut k = 0;
     while k < z.constraints {
-        let c = season::cursor::constraint_of(season, z, k);
-        let end = at + season::rules::entries_of(c);
+        let c = reader::cursor::constraint_of(season, z, k);
+        let end = at + kinds::entries_of(c);
         if is_touched(c, touch) {
             sums = renew(
                 sums,

@@ -7,9 +7,9 @@ use Rattle.robinx.specs.Calls.{Buffers, Outcome, outcome, declined, unlessRefus
 use Rattle.robinx.specs.PlainSheet.{plainFault}
 use Rattle.robinx.specs.declared.Reply.{Reply}
 use Rattle.robinx.proofs.Passed.{orElse, fault-of-call}
-use Rattle.timetable.specs.Tables.{Tables}
-use Rattle.checker.specs.Admission.{Admits, afterEntry}
-use Rattle.checker.specs.declared.admission.Admission.{Admission}
+use Rattle.tables.specs.Tables.{Tables}
+use Rattle.admission.specs.Admission.{Admits, afterEntry}
+use Rattle.admission.specs.declared.Admission.{Admission}
 
 module _ {s : List ℕ} {t : Tables} {b : Buffers} {r : Admission} (w : Admits s b r t) where
   call-fault : (k : Call) → callFault s b k ≡ orElse (r .fault) (plainFault (decode s) (b .sheet) k)

@@ -1,5 +1,1 @@
-pub mod Entry
-pub mod Shown
-pub mod Outcomes
-pub mod Accept
 pub mod Exported

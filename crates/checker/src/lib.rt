@@ -1,7 +1,4 @@
 // The three calls of the console. Each meets its definition for every input; a declined call writes nothing.
-pub mod admission;
-pub mod calls;
-
 ghost use mathlib.Core.Path.{_≡_};
 ghost use Rattle.robinx.specs.Calls.{buffers, outcome, openCall, setCall, exchangeCall};
 use robinx::Reply;

@@ -8,9 +8,9 @@ use Rattle.robinx.specs.Deviations.{deviationsOf, deviations}
 use Rattle.robinx.specs.declared.Constraint.{Constraint}
 use Rattle.robinx.proofs.Limits.{known}
 use Rattle.robinx.proofs.Unknown.{NoKind, unknown-kind}
-use Rattle.timetable.specs.Tables.{Tables, xOf}
-use Rattle.figures.specs.Figures.{Ready}
-use Rattle.figures.proofs.Ready.{limits}
+use Rattle.tables.specs.Tables.{Tables, xOf}
+use Rattle.opponents.specs.Figures.{Ready}
+use Rattle.opponents.proofs.Ready.{limits}
 
 module _ {n P : ℕ} {c : Constraint} {ts : Tables} {out : List ℕ} (r : Ready n P c ts out) where
   -- the deviations of the kind with number k

@@ -1,9 +1,1 @@
-pub mod Ready
 pub mod Known
-pub mod Between
-pub mod Games
-pub mod Gathered
-pub mod Meetings
-pub mod TeamFigures
-pub mod TeamBreaks
-pub mod Running

@@ -1,17 +1,9 @@
-// The deviations of each kind, written into the constraint's own stretch of the ledger, from the tables of masks.
-pub mod measure; // measure.rt: modes, and how far a count is off
-pub mod opponents; // opponents.rt: the slots of a team's games against a group
-pub mod counts; // counts.rt: CA1, CA2, CA3
-pub mod across; // across.rt: games between two groups (CA4, GA1)
-pub mod breaks; // breaks.rt: BR1, BR2
-pub mod balance; // balance.rt: running counts of home and away games (FA1) and of two teams (FA2)
-pub mod separation; // separation.rt: SE1
-
+// The deviations of a constraint, written into its own stretch of the ledger from the tables of masks: each kind by the crate of its class.
 ghost use mathlib.Core.Path.{_≡_};
 ghost use Prim.Native.Nat.{_≤_};
 ghost use Rattle.robinx.specs.Deviations.{deviations};
-ghost use Rattle.timetable.specs.Tables.{tables, xOf};
-ghost use Rattle.figures.specs.Figures.{Ready};
+ghost use Rattle.tables.specs.Tables.{tables, xOf};
+ghost use Rattle.opponents.specs.Figures.{Ready};
 use robinx::Constraint;
 use robinx::Season;
 use robinx::Slots;
@@ -34,7 +26,7 @@ fn fill_capacity(
         11 => counts::fill_counts(c, n, p, home, away, meets, out),
         12 => counts::fill_counts(c, n, p, home, away, meets, out),
         13 => counts::fill_runs(c, n, p, home, away, meets, out),
-        14 => across::fill_ca4(c, n, p, home, away, meets, out),
+        14 => between::fill_ca4(c, n, p, home, away, meets, out),
         _ => {}
     }
 }
@@ -75,8 +67,8 @@ fn fill_fairness(
 {
     let kind = c.kind;
     match kind {
-        41 => balance::fill_fa1(c, n, p, home, away, meets, out),
-        42 => balance::fill_fa2(c, n, p, home, away, meets, out),
+        41 => fairness::fill_fa1(c, n, p, home, away, meets, out),
+        42 => fairness::fill_fa2(c, n, p, home, away, meets, out),
         _ => {}
     }
 }
@@ -97,7 +89,7 @@ pub fn fill(
     let kind = c.kind;
     match kind {
         10..=19 => fill_capacity(c, n, p, home, away, meets, out),
-        20..=29 => across::fill_ga1(c, n, p, home, away, meets, out),
+        20..=29 => between::fill_ga1(c, n, p, home, away, meets, out),
         30..=39 => fill_break(c, n, p, home, away, meets, out),
         40..=49 => fill_fairness(c, n, p, home, away, meets, out),
         50..=59 => separation::fill_separation(c, n, p, home, away, meets, out),

@@ -3,5 +3,3 @@ pub mod Width
 pub mod Counts
 pub mod Carry
 pub mod Walk
-pub mod Rows
-pub mod Bytes

@@ -1,2 +1,1 @@
 pub mod Masks
-pub mod Rows

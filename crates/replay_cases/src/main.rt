@@ -18,7 +18,7 @@ fn read_word() -> Read {
     let n = io::read_full(STDIN_FILENO, &mut bytes);
     Read {
         found: n == 8,
-        value: season::reader::long(&bytes, 0),
+        value: reader::long(&bytes, 0),
     }
 }
 

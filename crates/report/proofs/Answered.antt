@@ -12,7 +12,7 @@ use Rattle.robinx.specs.Calls.{Outcome, buffers, outcome, declined, unlessRefus
 use Rattle.robinx.specs.Refusals.{Sentence, firstTrue, ofSeason, ofSheet}
 use Rattle.robinx.specs.Report.{seasonOf, sheetOf, reportFault, reportRows}
 use Rattle.robinx.specs.declared.Reply.{Reply}
-use Rattle.season.proofs.Read.{constraints-read}
+use Rattle.reader.proofs.Read.{constraints-read}
 use Rattle.robinx.proofs.Passed.{orElse, first-of-both, none-true}
 use Rattle.robinx.proofs.Lengths.{length-tally}
 use Rattle.season.specs.declared.Examined.{Examined}

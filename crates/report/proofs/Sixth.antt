@@ -10,8 +10,8 @@ use Rattle.robinx.specs.Books.{allEntries}
 use Rattle.robinx.specs.Refusals.{Sentence, sentence, firstTrue, ofSeason, sentence1, sentence6}
 use Rattle.robinx.specs.declared.Season.{Season}
 use Rattle.robinx.proofs.Passed.{orElse, first-of-both, Clear, none-true}
-use Rattle.season.specs.Sizes.{sizesOf}
-use Rattle.season.proofs.Read.{constraints-read}
+use Rattle.reader.specs.Sizes.{sizesOf}
+use Rattle.reader.proofs.Read.{constraints-read}
 use Rattle.season.proofs.Found.{no-fault, refusal}
 use Rattle.season.specs.declared.Examined.{Examined}
 use Rattle.season.specs.Examination.{Examination, refusedBy}

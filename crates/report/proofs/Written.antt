@@ -13,8 +13,8 @@ use Rattle.robinx.specs.Report.{brokenRows}
 use Rattle.robinx.specs.declared.Constraint.{Constraint}
 use Rattle.robinx.specs.declared.Season.{Season}
 use Rattle.robinx.proofs.Lengths.{list-at, list-beyond}
-use Rattle.season.specs.Sizes.{sizesOf}
-use Rattle.season.proofs.Read.{constraints-read}
+use Rattle.reader.specs.Sizes.{sizesOf}
+use Rattle.reader.proofs.Read.{constraints-read}
 use Rattle.report.specs.Rows.{flat, Written, TallyOf, penaltyOf, brokenOf, rowsOf}
 
 flat-append : (a b : List (List ℕ)) → flat (a ++ b) ≡ flat a ++ flat b

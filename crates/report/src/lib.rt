@@ -7,7 +7,7 @@ ghost use lib.ListN.{length, take, drop};
 ghost use Rattle.robinx.specs.Season.{mostConstraints, mostDeviations};
 ghost use Rattle.robinx.specs.Report.{seasonOf, sheetOf, reportFault};
 ghost use Rattle.robinx.specs.Refusals.{firstTrue, ofSeason};
-ghost use Rattle.season.specs.Sizes.{Measured};
+ghost use Rattle.reader.specs.Sizes.{Measured};
 ghost use Rattle.season.specs.Examination.{Examination};
 ghost use Rattle.report.specs.Answer.{upToSix, reportReply};
 ghost use Rattle.report.specs.Rows.{Written, TallyOf, penaltyOf, brokenOf, rowsOf, Reported};
@@ -24,8 +24,8 @@ fn season_end(input: &[u8]) -> usize
     if input.len() < 6 {
         return input.len();
     }
-    let games = season::reader::short(input, 2);
-    let constraints = season::reader::short(input, 4);
+    let games = reader::short(input, 2);
+    let constraints = reader::short(input, 4);
     let end = 6 + 2 * games + 24 * constraints;
     if input.len() < end {
         return input.len();
@@ -64,7 +64,7 @@ fn open(input: &[u8], ledger: &mut [u32], tally: &mut [u64]) -> Reply
     let season = &input[..end];
     let e = examine(season);
     if e.fault != 0 {
-        return checker::calls::declined(e.fault);
+        return calls::declined(e.fault);
     }
     let entries = e.entries;
     let words = e.sizes.constraints + 2;
@@ -98,7 +98,7 @@ fn put_broken(season: &[u8], z: Season, c: usize, penalty: u64, out: &mut [u64],
     if penalty == 0 {
         return k;
     }
-    let read = season::cursor::constraint_of(season, z, c);
+    let read = reader::cursor::constraint_of(season, z, c);
     put_row(out, k, c as u64, read.kind as u64, penalty);
     k + 1
 }
@@ -126,7 +126,7 @@ fn put_rows(season: &[u8], verdict: u8, tally: &[u64], out: &mut [u64]) -> usize
     ensures { λ r. ⌜ ((sheet : List ℕ) → TallyOf (now (season .entry)) sheet (now (tally .entry))
         → Written (rowsOf verdict (now (season .entry)) sheet) r (now (out .exit))) ⌝ }
 {
-    let z = season::reader::sizes(season);
+    let z = reader::sizes(season);
     let at = z.constraints;
     let hard = tally[at];
     let soft = tally[at + 1];

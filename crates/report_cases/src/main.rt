@@ -19,7 +19,7 @@ fn next_length() -> usize
     if io::read_full(STDIN_FILENO, &mut header) < 2 {
         return 65536;
     }
-    season::reader::short(&header, 0)
+    reader::short(&header, 0)
 }
 
 // An input longer than the program's own buffer is cut there.

@@ -1,6 +1,4 @@
 // The records and limits that the definitions (specs/) and the code share.
-ghost use mathlib.Core.Path.{_≡_};
-ghost use Prim.Native.Nat.{_+_, _%_, _^_};
 
 // The sizes of a season.
 pub struct Season {
@@ -99,33 +97,6 @@ pub struct Form {
     pub shape: Shape,
     pub teams: TouchTeams,
     pub slots: TouchSlots,
-}
-
-// The two running totals: infeasibility and objective.
-pub struct Totals {
-    pub hard: u64,
-    pub soft: u64,
-}
-
-// A penalty is added modulo 2^64, which is exact for correct books: both totals stay below 2^60.
-impl Totals {
-    pub fn add_hard(self, penalty: u64) -> Self
-        ensures { λ r. ⌜ (r .hard ≡ (self .hard + penalty) % 2 ^ 64) × (r .soft ≡ self .soft) ⌝ }
-    {
-        Self {
-            hard: std::num::wrapping_add_u64(self.hard, penalty),
-            soft: self.soft,
-        }
-    }
-
-    pub fn add_soft(self, penalty: u64) -> Self
-        ensures { λ r. ⌜ (r .hard ≡ self .hard) × (r .soft ≡ (self .soft + penalty) % 2 ^ 64) ⌝ }
-    {
-        Self {
-            hard: self.hard,
-            soft: std::num::wrapping_add_u64(self.soft, penalty),
-        }
-    }
 }
 
 // What a call answers: a refusal's number, or a verdict with the changes of infeasibility and objective.

@@ -12,9 +12,9 @@ use Rattle.robinx.specs.declared.Season.{Season}
 use Rattle.robinx.proofs.Limits.{Sound, sound, decode-home, decode-away}
 use Rattle.robinx.proofs.Passed.{none-true}
 use Rattle.season.specs.declared.Examined.{Examined}
-use Rattle.season.specs.Sizes.{sizesOf, Measured}
+use Rattle.reader.specs.Sizes.{sizesOf, Measured}
 use Rattle.season.specs.Examination.{Examination, refusedBy}
-use Rattle.season.proofs.Read.{length-asked}
+use Rattle.reader.proofs.Read.{length-asked}
 
 pub measured : (s : List ℕ) {z : Season} → z ≡ sizesOf s → sentence3 s ≡ false → Measured s z
 unfolding sentence3

@@ -9,10 +9,11 @@ use lib.Dec.{eqb, leb, ltb}
 use lib.ListN.{length, getD, set, replicate, length-set, length-replicate, getD-replicate}
 use lib.Seq.{getD-set-same, getD-set-other}
 use borrow.Author.Tests.{eqb-true, eqb-false, leb-true, leb-false, lt-leb, eq-eqb, ne-eqb, lt-ltb, le-ltb}
-use Rattle.robinx.specs.Season.{mostTeams, mostPlaces, mostMeetings}
+use Rattle.robinx.specs.Season.{decode, homeTeams, awayTeams, mostTeams, mostPlaces, mostMeetings}
 use Rattle.robinx.specs.Sums.{sumTo, only}
-use Rattle.robinx.specs.Refusals.{isBetween, encounters, badGame, sentence4}
+use Rattle.robinx.specs.Refusals.{isBetween, encounters, badGame, sentence3, sentence4}
 use Rattle.robinx.proofs.Sums.{or-no, and-yes, sum-step, sum-mono, any-some, none-any}
+use Rattle.robinx.proofs.Limits.{decode-home}
 use Rattle.season.specs.Meetings.{ofGames, pairAt, refused}
 
 -- the teams of a game are two of n
@@ -154,3 +155,8 @@ counted-good {n} small {home} {away} all =
       ne-eqb (getD home k 0) (getD away k 0) (f .differ),
     )
     (le-ltb 8 _ (all .met _ _ (record { home = omega (arith, f .home); away = omega (arith, f .away); differ = f .differ }) .1)))
+
+-- sentence 4 reads the number of teams and the games alone
+pub games-alone : (s : List ℕ) → sentence3 s ≡ false → sentence4 (ofGames (decode s .n) (homeTeams s) (awayTeams s)) ≡ sentence4 (decode s)
+unfolding sentence4 badGame decode
+games-alone s h = rw (decode-home s h)

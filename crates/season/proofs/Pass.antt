@@ -18,12 +18,12 @@ use Rattle.robinx.specs.declared.Constraint.{Constraint}
 use Rattle.robinx.proofs.Sums.{sum-step, any-step, any-some}
 use Rattle.robinx.proofs.Bounds.{entries-small}
 use Rattle.robinx.specs.Kinds.{formAt}
-use Rattle.season.specs.Counted.{onesIn}
-use Rattle.season.specs.Sizes.{Measured, outOfRange}
+use Rattle.rules.specs.Counted.{onesIn}
+use Rattle.reader.specs.Sizes.{Measured, outOfRange}
 use Rattle.season.specs.Examination.{Examination, refusedBy, further}
 use Rattle.season.specs.declared.Examined.{Examined}
-use Rattle.season.proofs.Read.{teams-read, slots-read, constraints-read, InRange}
-use Rattle.season.proofs.Members.{entries-counted}
+use Rattle.reader.proofs.Read.{teams-read, slots-read, constraints-read, InRange}
+use Rattle.rules.proofs.Members.{entries-counted}
 
 abbrev pub breach : Instance → ℕ → Bool
 breach m c = not (obeys (m .n) (m .P) (m .constraint c))

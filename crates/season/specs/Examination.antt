@@ -9,8 +9,8 @@ use Rattle.robinx.specs.Kinds.{formAt}
 use Rattle.robinx.specs.Rules.{obeys}
 use Rattle.robinx.specs.declared.Constraint.{Constraint}
 use Rattle.robinx.specs.Refusals.{Sentence, firstTrue}
-use Rattle.season.specs.Counted.{onesIn}
-use Rattle.season.specs.Sizes.{sizesOf}
+use Rattle.rules.specs.Counted.{onesIn}
+use Rattle.reader.specs.Sizes.{sizesOf}
 use Rattle.season.specs.declared.Examined.{Examined}
 
 -- the number of the first true sentence about s, or 0 and then the sizes and E

@@ -1,4 +1,2 @@
-pub mod Sizes
-pub mod Counted
 pub mod Meetings
 pub mod Examination

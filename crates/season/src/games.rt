@@ -6,7 +6,7 @@ ghost use lib.ListN.{length, getD, set};
 ghost use Rattle.robinx.specs.Season.{mostTeams, mostPlaces};
 ghost use Rattle.robinx.specs.Refusals.{sentence4};
 ghost use Rattle.season.specs.Meetings.{pairAt, refused, ofGames};
-use super::reader::wide;
+use reader::wide;
 use robinx::Season;
 
 // The place of two teams' meetings, whichever is at home.

@@ -1,9 +1,5 @@
 // A season's bytes, read inside their ends, and the first true one of sentences 1 to 5.
-pub mod cursor;
 pub mod games;
-pub mod kinds;
-pub mod reader;
-pub mod rules;
 
 ghost use mathlib.Core.Path.{_≡_};
 ghost use mathlib.Core.Bool.{false};
@@ -11,7 +7,7 @@ ghost use mathlib.Core.List.{_∷_, []};
 ghost use Prim.Native.Nat.{_+_, _*_, _<_, _^_};
 ghost use Rattle.robinx.specs.Season.{decode};
 ghost use Rattle.robinx.specs.Refusals.{sentence, sentence3, sentence4, sentence5, ofSeason};
-ghost use Rattle.season.specs.Sizes.{sizesOf, Measured, outOfRange};
+ghost use Rattle.reader.specs.Sizes.{sizesOf, Measured, outOfRange};
 ghost use Rattle.season.specs.Examination.{Examination, refusedBy, further};
 use robinx::Constraint;
 use robinx::Season;
@@ -79,7 +75,7 @@ fn examine_next(x: Examined, k: Constraint) -> Examined
     Examined {
         fault: 0,
         sizes: z,
-        entries: x.entries + rules::entries_of(k),
+        entries: x.entries + kinds::entries_of(k),
     }
 }
 
@@ -88,15 +84,15 @@ fn examine_constraints(season: &[u8], z: Season) -> Examined
     requires { ⌜ (Measured (now season) z) × (outOfRange z ≡ false) ⌝ }
     ensures { λ r. ⌜ Examination (sentence 5 (sentence5 (decode (now (season .entry)))) ∷ []) (now (season .entry)) r ⌝ }
 {
-    let mut r = cursor::start(season);
+    let mut r = reader::cursor::start(season);
     let mut x = Examined {
         fault: 0,
         sizes: z,
         entries: 0,
     };
     while (r.at < z.constraints) & (x.fault == 0) {
-        x = examine_next(x, cursor::read(r, z));
-        r = cursor::forward(r, 1);
+        x = examine_next(x, reader::cursor::read(r, z));
+        r = reader::cursor::forward(r, 1);
     }
     x
 }

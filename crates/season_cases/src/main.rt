@@ -21,7 +21,7 @@ fn next_case(input: &[u8], at: usize) -> usize
     ensures { λ r. ⌜ (at < r) × (r ≤ length (now (input .entry))) ⌝ }
 {
     let start = at + 2;
-    let end = start + season::reader::short(input, at);
+    let end = start + reader::short(input, at);
     if input.len() < end {
         return input.len();
     }

@@ -11,7 +11,8 @@ use Rattle.robinx.specs.Sums.{sumTo}
 use Rattle.robinx.specs.Season.{mostTeams}
 use Rattle.robinx.specs.Timetable.{isAt, meetings}
 use Rattle.robinx.proofs.Sums.{sum-zero}
-use Rattle.timetable.specs.Tables.{Tables, xOf, Shows, InRange}
+use Rattle.tables.specs.Tables.{Tables, xOf}
+use Rattle.timetable.specs.OfSheet.{Shows, InRange}
 
 pub in-range-most : {n : ℕ} {homes aways sheet : List ℕ} → InRange n homes aways sheet → InRange mostTeams homes aways sheet
 in-range-most range = record {

@@ -16,7 +16,8 @@ use Rattle.robinx.specs.Season.{mostTeams, mostPlaces}
 use Rattle.robinx.specs.Timetable.{isAt, meetings, clash}
 use Rattle.robinx.proofs.Sums.{never, only-le, sum-zero, sum-step, sum-bound}
 use Rattle.robinx.proofs.Bits.{none-bit}
-use Rattle.timetable.specs.Tables.{Tables, cell, xOf, Fits, Empty, unplaced}
+use Rattle.tables.specs.Tables.{Tables, cell, xOf}
+use Rattle.timetable.specs.OfSheet.{Fits, Empty, unplaced}
 use Rattle.timetable.proofs.Points.{sum-change}
 use Rattle.timetable.proofs.Clash.{clash-is, clashing-kept}
 

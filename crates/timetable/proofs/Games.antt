@@ -13,7 +13,8 @@ use Rattle.robinx.specs.Season.{mostSlots}
 use Rattle.robinx.specs.Timetable.{isAt, meetings}
 use Rattle.robinx.proofs.Sums.{and-yes, term-le-sum}
 use Rattle.robinx.proofs.Bits.{bit-lt, in-bit}
-use Rattle.timetable.specs.Tables.{Tables, cell, xOf, Shows, InRange, busy}
+use Rattle.tables.specs.Tables.{Tables, cell, xOf, busy}
+use Rattle.timetable.specs.OfSheet.{Shows, InRange}
 use Rattle.timetable.proofs.Clash.{sum-found, count-found, or-cases, team-cases, Plays}
 
 module _ {n : ℕ} {t : Tables} {homes aways sheet : List ℕ} (range : InRange n homes aways sheet) (shows : Shows n t homes aways sheet)

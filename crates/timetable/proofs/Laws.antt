@@ -12,7 +12,8 @@ use Rattle.robinx.specs.Season.{mostSlots}
 use Rattle.robinx.specs.Timetable.{meetings, clash}
 use Rattle.robinx.proofs.Sums.{or-no, never, term-le-sum}
 use Rattle.robinx.proofs.Bits.{out-bit}
-use Rattle.timetable.specs.Tables.{Tables, tables, cell, xOf, Sized, Shows, InRange, busy, taken, putInto, takenOutOf}
+use Rattle.tables.specs.Tables.{Tables, tables, cell, xOf, Sized, busy, taken, putInto, takenOutOf}
+use Rattle.timetable.specs.OfSheet.{Shows, InRange}
 use Rattle.timetable.proofs.Points.{joined-more, without-less, set-gains, set-loses}
 use Rattle.timetable.proofs.Tied.{MeetsMore, shows-more, shows-less}
 use Rattle.timetable.proofs.Sheet.{meetings-more}

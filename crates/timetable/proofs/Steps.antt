@@ -9,7 +9,8 @@ use lib.Seq.{getD-set-same, getD-set-other, set-set, set-comm, set-getD}
 use borrow.Author.Tests.{not-true, not-false}
 use Rattle.robinx.specs.Season.{mostSlots}
 use Rattle.robinx.specs.Timetable.{clash}
-use Rattle.timetable.specs.Tables.{Tables, Shows, InRange, Fits, putInto, takenOutOf, freeAt, Tried}
+use Rattle.tables.specs.Tables.{Tables, putInto, takenOutOf, freeAt, Tried}
+use Rattle.timetable.specs.OfSheet.{Shows, InRange, Fits}
 use Rattle.timetable.proofs.Laws.{in-range-set, lift-law, place-law, busy-is-clash, clash-lift, clash-stays}
 
 module _ {n : ℕ} {homes aways sheet : List ℕ} (range : InRange n homes aways sheet) (g : ℕ) (low : g < length homes) {t t′ : Tables} where

@@ -13,7 +13,8 @@ use Rattle.robinx.specs.Season.{mostTeams}
 use Rattle.robinx.specs.Timetable.{X, meetings}
 use Rattle.robinx.proofs.Sums.{sum-add, sum-zero}
 use Rattle.robinx.proofs.Ext.{sum-ext}
-use Rattle.timetable.specs.Tables.{Tables, cell, xOf, Sized, Tied, Shows}
+use Rattle.tables.specs.Tables.{Tables, cell, xOf, Sized, Tied}
+use Rattle.timetable.specs.OfSheet.{Shows}
 use Rattle.timetable.proofs.Points.{Gains, sum-point}
 
 -- x′ is x with one more meeting of i and j at i's venue in slot k

@@ -12,7 +12,8 @@ use Rattle.robinx.specs.Sums.{sumTo, anyTo, only}
 use Rattle.robinx.specs.Season.{mostTeams, mostSlots}
 use Rattle.robinx.specs.Timetable.{clash}
 use Rattle.robinx.proofs.Sums.{any-some, any-step}
-use Rattle.timetable.specs.Tables.{Tables, Teams, InRange, Fits, Empty, Tried, unplaced, above, Builds}
+use Rattle.tables.specs.Tables.{Tables, Tried}
+use Rattle.timetable.specs.OfSheet.{Teams, InRange, Fits, Empty, unplaced, above, Builds}
 use Rattle.timetable.specs.declared.Built.{Built}
 use Rattle.timetable.proofs.Laws.{in-range-set}
 use Rattle.timetable.proofs.Steps.{fits-tried}

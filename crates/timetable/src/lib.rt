@@ -1,22 +1,15 @@
-// The three tables of a sheet: which slots a team plays at home, which away, and in which one team hosts another. A game is put into
-// all three or into none.
+// The tables of a sheet: built from it, and kept while a game gets another slot or two games exchange theirs.
 ghost use mathlib.Core.Path.{_≡_};
-ghost use mathlib.Core.List.{List};
-ghost use mathlib.Core.Bool.{Bool, true, false, _&&_, _||_, not};
-ghost use Prim.Native.Nat.{ℕ, suc, _+_, _<_, _≤_};
+ghost use mathlib.Core.Bool.{true, false, _&&_};
+ghost use Prim.Native.Nat.{_<_, _≤_};
 ghost use lib.Dec.{eqb};
 ghost use lib.ListN.{length, set, getD};
 ghost use Rattle.robinx.specs.Sums.{only};
 ghost use Rattle.robinx.specs.Season.{mostTeams, mostSlots};
-ghost use Rattle.timetable.specs.Tables.{tables, cell, busy, joinedAt, withoutAt, takenOutOf, Teams, InRange, Fits, Empty, Tried, Builds};
+ghost use Rattle.tables.specs.Tables.{tables, takenOutOf, Tried};
+ghost use Rattle.timetable.specs.OfSheet.{Teams, InRange, Fits, Empty, Builds};
 use robinx::Season;
 use robinx::Slots;
-
-fn either(a: bool, b: bool) -> bool
-    ensures { λ r. ⌜ r ≡ a || b ⌝ }
-{
-    if a { true } else { b }
-}
 
 fn both(a: bool, b: bool) -> bool
     ensures { λ r. ⌜ r ≡ a && b ⌝ }
@@ -24,87 +17,7 @@ fn both(a: bool, b: bool) -> bool
     if a { b } else { false }
 }
 
-// Team t has a game in slot k.
-fn busy(home: &[Slots; Season::TEAMS], away: &[Slots; Season::TEAMS], t: usize, k: u64) -> bool
-    requires { ⌜ (t < mostTeams) × (k < mostSlots) ⌝ }
-    ensures { λ r. ⌜ r ≡ busy (now (home .entry)) (now (away .entry)) t k ⌝ }
-{
-    either(masks::is_in(home[t], k), masks::is_in(away[t], k))
-}
-
-// Slot k of a team, set and cleared.
-fn join_row(row: &mut [Slots; Season::TEAMS], t: usize, k: u64)
-    requires { ⌜ (t < mostTeams) × (k < mostSlots) ⌝ }
-    ensures { λ _. ⌜ now (row .exit) ≡ joinedAt (now (row .entry)) t k ⌝ }
-{
-    row[t] = masks::joined(row[t], k);
-}
-
-fn clear_row(row: &mut [Slots; Season::TEAMS], t: usize, k: u64)
-    requires { ⌜ (t < mostTeams) × (k < mostSlots) ⌝ }
-    ensures { λ _. ⌜ now (row .exit) ≡ withoutAt (now (row .entry)) t k ⌝ }
-{
-    row[t] = masks::without(row[t], k);
-}
-
-// .. of i hosting j.
-fn join_cell(meets: &mut [Slots; Season::PLACES], i: usize, j: usize, k: u64)
-    requires { ⌜ (i < mostTeams) × (j < mostTeams) × (k < mostSlots) ⌝ }
-    ensures { λ _. ⌜ now (meets .exit) ≡ joinedAt (now (meets .entry)) (cell i j) k ⌝ }
-{
-    let q = i * Season::TEAMS + j;
-    meets[q] = masks::joined(meets[q], k);
-}
-
-fn clear_cell(meets: &mut [Slots; Season::PLACES], i: usize, j: usize, k: u64)
-    requires { ⌜ (i < mostTeams) × (j < mostTeams) × (k < mostSlots) ⌝ }
-    ensures { λ _. ⌜ now (meets .exit) ≡ withoutAt (now (meets .entry)) (cell i j) k ⌝ }
-{
-    let q = i * Season::TEAMS + j;
-    meets[q] = masks::without(meets[q], k);
-}
-
-// Puts i at home against j into slot k, or says that one of them is busy there and changes nothing.
-pub fn place(
-    home: &mut [Slots; Season::TEAMS],
-    away: &mut [Slots; Season::TEAMS],
-    meets: &mut [Slots; Season::PLACES],
-    i: usize,
-    j: usize,
-    k: u64,
-) -> bool
-    requires { ⌜ (i < mostTeams) × (j < mostTeams) × (k < mostSlots) ⌝ }
-    ensures { λ r. ⌜ Tried r i j (suc k) (tables (now (home .entry)) (now (away .entry)) (now (meets .entry)))
-        (tables (now (home .exit)) (now (away .exit)) (now (meets .exit))) ⌝ }
-{
-    if either(busy(&*home, &*away, i, k), busy(&*home, &*away, j, k)) {
-        return false;
-    }
-    join_row(home, i, k);
-    join_row(away, j, k);
-    join_cell(meets, i, j, k);
-    true
-}
-
-// Takes i at home against j out of slot k.
-pub fn lift(
-    home: &mut [Slots; Season::TEAMS],
-    away: &mut [Slots; Season::TEAMS],
-    meets: &mut [Slots; Season::PLACES],
-    i: usize,
-    j: usize,
-    k: u64,
-)
-    requires { ⌜ (i < mostTeams) × (j < mostTeams) × (k < mostSlots) ⌝ }
-    ensures { λ _. ⌜ tables (now (home .exit)) (now (away .exit)) (now (meets .exit))
-        ≡ takenOutOf i j (suc k) (tables (now (home .entry)) (now (away .entry)) (now (meets .entry))) ⌝ }
-{
-    clear_row(home, i, k);
-    clear_row(away, j, k);
-    clear_cell(meets, i, j, k);
-}
-
-// The same for game g and the slot of byte b, of which 0 is no slot.
+// Puts game g into the slot of byte b, of which 0 is no slot, or says that one of its teams is busy there.
 fn put(
     homes: &[u8],
     aways: &[u8],
@@ -122,7 +35,7 @@ fn put(
     if b == 0 {
         return true;
     }
-    place(
+    tables::place(
         home,
         away,
         meets,
@@ -132,6 +45,7 @@ fn put(
     )
 }
 
+// Takes it out of that slot.
 fn take_out(
     homes: &[u8],
     aways: &[u8],
@@ -149,7 +63,7 @@ fn take_out(
     if b == 0 {
         return;
     }
-    lift(
+    tables::lift(
         home,
         away,
         meets,

@@ -7,7 +7,7 @@ use Rattle.books.proofs.accepted.Statement.{statement}
 use Rattle.books.proofs.accepted.Tie as tie
 use Rattle.books.proofs.accepted.Reads as reads
 use Rattle.books.proofs.accepted.Lts as lts
-use Rattle.books.proofs.totals.signed.Reads as signed-reads
+use Rattle.totals.proofs.signed.Reads as signed-reads
 
 signed-requires : tie.Need-signed-requires
 signed-requires c κs = search needs

@@ -1,7 +1,7 @@
 -- Both totals are read before they are written.
 use mathlib.Core.Path.{ap}
 use borrow.Author.Needs.{needs}
-use Rattle.robinx.specs.declared.Totals.{Totals}
+use Rattle.totals.specs.declared.Totals.{Totals}
 use Rattle.books.proofs.settle.Statement.{statement}
 use Rattle.books.proofs.settle.Tie as tie
 

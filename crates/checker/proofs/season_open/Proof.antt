@@ -1,6 +1,6 @@
 -- Sentences 1 to 8, then the fresh books. Assumes nothing.
 use borrow.Author.Needs.{needs}
-use Rattle.checker.proofs.Outcomes.{given, open-is}
+use Rattle.calls.proofs.Outcomes.{given, open-is}
 use Rattle.checker.proofs.Exported.{open-refused, open-accepted}
 use Rattle.checker.proofs.season_open.Statement.{statement}
 use Rattle.checker.proofs.season_open.Tie as tie

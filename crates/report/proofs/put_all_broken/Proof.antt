@@ -7,7 +7,7 @@ use native.Mathlib.Omega.{arith}
 use lib.ListN.{length}
 use borrow.Author.Needs.{needs}
 use Rattle.robinx.specs.Season.{decode}
-use Rattle.season.proofs.Read.{constraints-read}
+use Rattle.reader.proofs.Read.{constraints-read}
 use Rattle.report.specs.Rows.{Written, TallyOf, brokenOf}
 use Rattle.report.proofs.Written.{none-yet, all-told, penalty-read}
 use Rattle.report.proofs.put_all_broken.Statement.{statement}

@@ -6,8 +6,8 @@ use borrow.Author.Needs.{needs}
 use borrow.Author.Tests.{lt-ltb, le-ltb}
 use Rattle.robinx.specs.Season.{decode}
 use Rattle.robinx.specs.Refusals.{sentence1, sentence2, sentence3}
-use Rattle.season.specs.Sizes.{Measured, outOfRange}
-use Rattle.season.proofs.Read.{sizes-tested}
+use Rattle.reader.specs.Sizes.{Measured, outOfRange}
+use Rattle.reader.proofs.Read.{sizes-tested}
 use Rattle.season.proofs.Found.{measured, fault-1, fault-2, fault-3, fault-4, fault-5}
 use Rattle.season.proofs.examine.Statement.{statement}
 use Rattle.season.proofs.examine.Tie as tie

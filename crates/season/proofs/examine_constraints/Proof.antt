@@ -55,28 +55,28 @@ use Rattle.robinx.proofs.Season as Z
 use Rattle.robinx.proofs.Season.Laws as Z′
 use Rattle.robinx.proofs.Constraint as K
 use Rattle.robinx.proofs.Constraint.Laws as K′
-use Rattle.season.specs.Sizes.{Measured, outOfRange}
+use Rattle.reader.specs.Sizes.{Measured, outOfRange}
 use Rattle.season.specs.Examination.{Examination, further}
-use Rattle.season.specs.declared.cursor.Cursor.{Cursor}
+use Rattle.reader.specs.declared.cursor.Cursor.{Cursor}
 use Rattle.season.specs.declared.Examined.{Examined}
-use Rattle.season.proofs.Read.{InRange, in-range}
+use Rattle.reader.proofs.Read.{InRange, in-range}
 use Rattle.season.proofs.Pass.{Passed, passed-none, passed-more, passed-small, passed-all}
-use Rattle.season.proofs.cursor.Cursor as T₀
-use Rattle.season.proofs.cursor.Cursor.Laws as T′
+use Rattle.reader.proofs.cursor.Cursor as T₀
+use Rattle.reader.proofs.cursor.Cursor.Laws as T′
 use Rattle.season.proofs.Examined as X
 use Rattle.season.proofs.Examined.Laws as X′
-use Rattle.season.proofs.cursor.start as start
-use Rattle.season.proofs.cursor.start.Symbol as start-def
-use Rattle.season.proofs.cursor.start.Symbol.{name as #start}
-use Rattle.season.proofs.cursor.start.Met as start-thm
-use Rattle.season.proofs.cursor.forward as forward
-use Rattle.season.proofs.cursor.forward.Symbol as forward-def
-use Rattle.season.proofs.cursor.forward.Symbol.{name as #forward}
-use Rattle.season.proofs.cursor.forward.Met as forward-thm
-use Rattle.season.proofs.cursor.read as read
-use Rattle.season.proofs.cursor.read.Symbol as read-def
-use Rattle.season.proofs.cursor.read.Symbol.{name as #read}
-use Rattle.season.proofs.cursor.read.Met as read-thm
+use Rattle.reader.proofs.cursor.start as start
+use Rattle.reader.proofs.cursor.start.Symbol as start-def
+use Rattle.reader.proofs.cursor.start.Symbol.{name as #start}
+use Rattle.reader.proofs.cursor.start.Met as start-thm
+use Rattle.reader.proofs.cursor.forward as forward
+use Rattle.reader.proofs.cursor.forward.Symbol as forward-def
+use Rattle.reader.proofs.cursor.forward.Symbol.{name as #forward}
+use Rattle.reader.proofs.cursor.forward.Met as forward-thm
+use Rattle.reader.proofs.cursor.read as read
+use Rattle.reader.proofs.cursor.read.Symbol as read-def
+use Rattle.reader.proofs.cursor.read.Symbol.{name as #read}
+use Rattle.reader.proofs.cursor.read.Met as read-thm
 use Rattle.season.proofs.examine_next as following
 use Rattle.season.proofs.examine_next.Symbol as following-def
 use Rattle.season.proofs.examine_next.Symbol.{name as #examine-next}
@@ -402,7 +402,7 @@ examine-constraints-spec 𝓤 H 𝓜 𝓖 𝓡 =
     entered 𝓤 H (tripleOf 𝓤 H (𝓖 .A) wanted.signature (wanted.spec 𝓤 H (𝓖 .A) (𝓜 .mem) (𝓡 .run)))
     (tables 𝓤 H 𝓜 𝓡 code.env .C) (tables 𝓤 H 𝓜 𝓡 code.env .Λ) #examine-constraints code.function (code.unfolded 𝓤 H 𝓜 𝓡)
     (examine-constraints-meets 𝓤 H (𝓖 .A) (givenOf 𝓤 H 𝓜 𝓖) (𝓜 .mem) (𝓡 .run) (tablesOf 𝓤 H 𝓜 (tables 𝓤 H 𝓜 𝓡 code.env))
-    (cited 𝓤 H (Start 𝓤 H (𝓖 .A) (𝓜 .mem) (𝓡 .run)) 𝓜 𝓡 code.env #start start-def.routine code.calls-season·cursor·start (start-thm.met 𝓤 H 𝓜 𝓖 𝓡))
-    (cited 𝓤 H (Forward 𝓤 H (𝓖 .A) (𝓜 .mem) (𝓡 .run)) 𝓜 𝓡 code.env #forward forward-def.routine code.calls-season·cursor·forward (forward-thm.met 𝓤 H 𝓜 𝓖 𝓡))
-    (cited 𝓤 H (Read 𝓤 H (𝓖 .A) (𝓜 .mem) (𝓡 .run)) 𝓜 𝓡 code.env #read read-def.routine code.calls-season·cursor·read (read-thm.met 𝓤 H 𝓜 𝓖 𝓡))
+    (cited 𝓤 H (Start 𝓤 H (𝓖 .A) (𝓜 .mem) (𝓡 .run)) 𝓜 𝓡 code.env #start start-def.routine code.calls-reader·cursor·start (start-thm.met 𝓤 H 𝓜 𝓖 𝓡))
+    (cited 𝓤 H (Forward 𝓤 H (𝓖 .A) (𝓜 .mem) (𝓡 .run)) 𝓜 𝓡 code.env #forward forward-def.routine code.calls-reader·cursor·forward (forward-thm.met 𝓤 H 𝓜 𝓖 𝓡))
+    (cited 𝓤 H (Read 𝓤 H (𝓖 .A) (𝓜 .mem) (𝓡 .run)) 𝓜 𝓡 code.env #read read-def.routine code.calls-reader·cursor·read (read-thm.met 𝓤 H 𝓜 𝓖 𝓡))
     (cited 𝓤 H (Following 𝓤 H (𝓖 .A) (𝓜 .mem) (𝓡 .run)) 𝓜 𝓡 code.env #examine-next following-def.routine code.calls-season·examine-next (following-thm.met 𝓤 H 𝓜 𝓖 𝓡)))

@@ -3,7 +3,7 @@ use mathlib.Core.Path.{sym, _∙_}
 use native.Mathlib.Omega.{arith}
 use borrow.Author.Needs.{needs}
 use borrow.Author.Tests.{not-true, not-false}
-use Rattle.season.proofs.Read.{InRange, in-range}
+use Rattle.reader.proofs.Read.{InRange, in-range}
 use Rattle.season.proofs.Pass.{ones-small}
 use Rattle.season.proofs.examine_next.Statement.{statement}
 use Rattle.season.proofs.examine_next.Tie as tie

@@ -2,7 +2,7 @@
 use native.Mathlib.Omega.{arith}
 use denote.Ref.{now}
 use Rattle.robinx.specs.Refusals.{sentence3}
-use Rattle.season.proofs.Read.{in-range, length-asked}
+use Rattle.reader.proofs.Read.{in-range, length-asked}
 use Rattle.season.proofs.length_bad.Statement.{statement}
 use Rattle.season.proofs.length_bad.Tie as tie
 

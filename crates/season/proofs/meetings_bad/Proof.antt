@@ -1,7 +1,8 @@
 -- The games of the season, by their number of teams and their lists of teams.
 use mathlib.Core.Path.{_∙_}
 use denote.Ref.{now}
-use Rattle.season.proofs.Read.{teams-read, in-range, right-length, as-many, games-alone}
+use Rattle.reader.proofs.Read.{teams-read, in-range, right-length, as-many}
+use Rattle.season.proofs.Meetings.{games-alone}
 use borrow.Author.Needs.{needs}
 use Rattle.season.proofs.meetings_bad.Statement.{statement}
 use Rattle.season.proofs.meetings_bad.Tie as tie

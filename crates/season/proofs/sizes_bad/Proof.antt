@@ -1,6 +1,6 @@
 -- The sizes against their limits.
 use mathlib.Core.Path.{refl}
-use Rattle.season.specs.Sizes.{outOfRange}
+use Rattle.reader.specs.Sizes.{outOfRange}
 use Rattle.season.proofs.sizes_bad.Statement.{statement}
 use Rattle.season.proofs.sizes_bad.Tie as tie
 

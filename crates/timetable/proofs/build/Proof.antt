@@ -5,7 +5,7 @@ use native.Mathlib.Omega.{arith}
 use borrow.Author.Needs.{needs}
 use borrow.Author.Tests.{not-true, not-false}
 use lib.ListN.{length}
-use Rattle.timetable.specs.Tables.{tables}
+use Rattle.tables.specs.Tables.{tables}
 use Rattle.timetable.proofs.FirstGames.{unplaced-next, unplaced-low}
 use Rattle.timetable.proofs.Turns.{Begun, none-yet, ends-above, ends-busy, next-turn, ends-whole}
 use Rattle.timetable.proofs.build.Statement.{statement}

@@ -1,7 +1,7 @@
 -- No move is possible, and its teams are in their group.
 use mathlib.Core.Path.{refl}
 use borrow.Author.Needs.{needs}
-use Rattle.books.proofs.Asked.{none-possible}
+use Rattle.touch.proofs.Asked.{none-possible}
 use Rattle.books.proofs.walk.everything.Statement.{statement}
 use Rattle.books.proofs.walk.everything.Tie as tie
 

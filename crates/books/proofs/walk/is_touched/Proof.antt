@@ -1,5 +1,5 @@
 -- All, or what a move touches. No move touches a constraint that is passed over.
-use Rattle.books.proofs.Asked.{by-row, not-touched}
+use Rattle.touch.proofs.Asked.{by-row, not-touched}
 use borrow.Author.Needs.{needs}
 use Rattle.books.proofs.walk.is_touched.Statement.{statement}
 use Rattle.books.proofs.walk.is_touched.Tie as tie

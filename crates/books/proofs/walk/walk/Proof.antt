@@ -5,7 +5,7 @@ use Prim.Native.Nat.{_-_, _≤_}
 use native.Mathlib.Omega.{arith}
 use denote.Ref.{now}
 use borrow.Author.Needs.{needs}
-use Rattle.timetable.specs.Tables.{tables}
+use Rattle.tables.specs.Tables.{tables}
 use Rattle.books.proofs.Turns.{Walk, Turn, turn, all, ranges}
 use Rattle.books.proofs.Walked.{walked-none, walked-done}
 use Rattle.books.proofs.walk.walk.Statement.{statement}

@@ -1,5 +1,0 @@
-pub mod Figures
-pub mod Between
-pub mod Games
-pub mod Pairs
-pub mod Running

@@ -1,0 +1,75 @@
+-- The sizes that were read are those of the decoded season; sentences 2 and 3 by what was read.
+use mathlib.Core.Path.{_≡_, sym, ap, _∙_}
+use mathlib.Core.List.{List}
+use mathlib.Core.Bool.{true, false, _&&_, not}
+use Prim.Native.Nat.{ℕ, _+_, _*_, _≤_}
+use lib.Dec.{leb}
+use lib.ListN.{length}
+use borrow.Author.Tests.{leb-true, not-false, eq-eqb}
+use Rattle.robinx.specs.Season.{decode, seasonLength, homeTeams, awayTeams, mostTeams, mostSlots, mostGames, mostConstraints}
+use Rattle.robinx.specs.Rules.{fits}
+use Rattle.robinx.specs.Refusals.{sentence2, sentence3}
+use Rattle.robinx.specs.declared.Season.{Season}
+use Rattle.robinx.proofs.Sums.{and-yes}
+use Rattle.robinx.proofs.Limits.{fits-in, decode-home, decode-away}
+use Rattle.reader.specs.Sizes.{sizesOf, Measured, outOfRange}
+
+module _ (s : List ℕ) {z : Season} (e : z ≡ sizesOf s) where
+  pub teams-read : z .teams ≡ decode s .n
+  unfolding sizesOf decode
+  teams-read = ap (λ (y : Season). y .teams) e
+
+  pub slots-read : z .slots ≡ decode s .P
+  unfolding sizesOf decode
+  slots-read = ap (λ (y : Season). y .slots) e
+
+  pub games-read : z .games ≡ decode s .G
+  unfolding sizesOf decode
+  games-read = ap (λ (y : Season). y .games) e
+
+  pub constraints-read : z .constraints ≡ decode s .C
+  unfolding sizesOf decode
+  constraints-read = ap (λ (y : Season). y .constraints) e
+
+  pub length-asked : seasonLength s ≡ 6 + 2 * z .games + 24 * z .constraints
+  unfolding seasonLength decode
+  length-asked = rw (games-read, constraints-read)
+
+  pub sizes-tested : sentence2 (decode s) ≡ outOfRange z
+  unfolding sentence2 outOfRange
+  sizes-tested = rw (teams-read, slots-read, games-read, constraints-read)
+
+-- the ranges of sizes that are not outside
+pub record InRange (z : Season) : Type 0 where
+  pub teams-least : 2 ≤ z .teams
+  pub teams : z .teams ≤ mostTeams
+  pub slots-least : 1 ≤ z .slots
+  pub slots : z .slots ≤ mostSlots
+  pub games : z .games ≤ mostGames
+  pub constraints : z .constraints ≤ mostConstraints
+
+pub in-range : (z : Season) → outOfRange z ≡ false → InRange z
+unfolding outOfRange
+in-range z e =
+    let constraints = and-yes (fits 2 mostTeams (z .teams) && fits 1 mostSlots (z .slots) && leb (z .games) mostGames) (leb (z .constraints) mostConstraints) (not-false _ e) in
+    let games = and-yes (fits 2 mostTeams (z .teams) && fits 1 mostSlots (z .slots)) (leb (z .games) mostGames) (constraints .0) in
+    let slots = and-yes (fits 2 mostTeams (z .teams)) (fits 1 mostSlots (z .slots)) (games .0) in
+    let teams-in = fits-in 2 mostTeams (z .teams) (slots .0) in
+    let slots-in = fits-in 1 mostSlots (z .slots) (slots .1) in
+    record {
+      teams-least = teams-in .0;
+      teams = teams-in .1;
+      slots-least = slots-in .0;
+      slots = slots-in .1;
+      games = leb-true (z .games) mostGames (games .1);
+      constraints = leb-true (z .constraints) mostConstraints (constraints .1);
+    }
+
+module _ (s : List ℕ) where
+  pub right-length : {z : Season} → Measured s z → sentence3 s ≡ false
+  unfolding sentence3
+  right-length m = ap not (eq-eqb (length s) (seasonLength s) (m .whole ∙ sym (length-asked s (m .sizes))))
+
+  pub as-many : sentence3 s ≡ false → length (awayTeams s) ≡ length (homeTeams s)
+  unfolding decode
+  as-many h = decode-away s h ∙ sym (decode-home s h)

@@ -1,0 +1,45 @@
+-- Two bytes are their sum, the second 256 times.
+use denote.Ref.{now}
+use Rattle.reader.proofs.Numbers.{two-bytes}
+use borrow.Author.Needs.{needs}
+use Rattle.reader.proofs.short.Statement.{statement}
+use Rattle.reader.proofs.short.Tie as tie
+
+shared-slice-read-wide : tie.Need-shared-slice-read-wide
+shared-slice-read-wide c = search needs
+
+wide-requires : tie.Need-wide-requires
+wide-requires c κs = search needs
+
+add-wide : tie.Need-add-wide
+add-wide c = search needs
+
+shared-slice-read-wide-2 : tie.Need-shared-slice-read-wide-2
+shared-slice-read-wide-2 c = search needs
+
+wide-requires-2 : tie.Need-wide-requires-2
+wide-requires-2 c κs = search needs
+
+mul-result : tie.Need-mul-result
+mul-result c = search needs
+
+add-result : tie.Need-add-result
+add-result c = search needs
+
+returns : tie.Need-returns
+returns c =
+    let a = c .before .before .before .before .before .args in
+    (two-bytes (now (a .s)) (a .at) _ _ (c .before .before .wide .ensures .0) (c .wide2 .ensures .0), search needs)
+
+pub short-spec : {M : Type 1} → statement M
+short-spec =
+    tie.close
+    (tie.spec
+    shared-slice-read-wide
+    wide-requires
+    add-wide
+    shared-slice-read-wide-2
+    wide-requires-2
+    mul-result
+    add-result
+    returns)

@@ -1,0 +1,73 @@
+-- `separation::fill_row` meets its contract. Before each turn the pairs with the members passed are in. Assumes nothing.
+use mathlib.Core.Path.{sym, _∙_}
+use Prim.Native.Nat.{_-_, _<_}
+use lib.ListN.{length}
+use Rattle.tables.specs.Tables.{xOf}
+use Rattle.separation.specs.Pairs.{closeness}
+use Rattle.groups.proofs.Walk.{RowPassed, row-start, row-place, row-turn, row-end}
+use borrow.Author.Needs.{needs}
+use Rattle.separation.proofs.fill_row.Statement.{statement}
+use Rattle.separation.proofs.fill_row.Tie as tie
+
+abbrev Inv-loop : tie.InvT-loop
+Inv-loop meets group w n p i e out₀ at₀ m₀ out at m = RowPassed n group (closeness (xOf meets) w p) i m at out
+
+abbrev μ-loop : tie.MeasureT-loop
+μ-loop meets group w n p i e out₀ at₀ m₀ out at m = n - m .at
+
+above-requires : tie.Need-above-requires Inv-loop μ-loop
+above-requires c κs = search needs
+
+loop-holds : tie.Need-loop-holds Inv-loop μ-loop
+loop-holds c =
+    let s = c .before .before in
+    row-start (c .above .ensures) (s .pre .0) (s .pre .2) (s .pre .3) (s .pre .4) (s .pre .5)
+
+next-requires : tie.Need-next-requires Inv-loop μ-loop
+next-requires c κs = search needs
+
+pair-closeness-requires : tie.Need-pair-closeness-requires Inv-loop μ-loop
+pair-closeness-requires c κs = let x = c .next .ensures _ _ (c .before .before .before .loop .inv .ahead) in search needs
+
+-- there is a place for the figure
+room : (c : tie.After-pair-closeness Inv-loop μ-loop) → let l = c .before .before .before .before .loop in l .at < length (l .out)
+room c = row-place (c .before .before .before .before .loop .inv) (c .before .next .ensures)
+
+mul-out : tie.Need-mul-out Inv-loop μ-loop
+mul-out c = let r = room c in search needs
+
+slice-write-out : tie.Need-slice-write-out Inv-loop μ-loop
+slice-write-out c = room c
+
+add-at : tie.Need-add-at Inv-loop μ-loop
+add-at c = let r = room c in search needs
+
+loop-less : tie.Need-loop-less Inv-loop μ-loop
+loop-less c = let x = c .before .next .ensures _ _ (c .before .before .before .before .loop .inv .ahead) in search needs
+
+loop-again : tie.Need-loop-again Inv-loop μ-loop
+loop-again c = row-turn (c .before .before .before .before .loop .inv) (c .before .next .ensures) (c .pair-closeness .ensures)
+
+same-length : tie.Need-same-length Inv-loop μ-loop
+same-length c = c .before .before .loop .inv .filled .filled .long ∙ sym (c .before .before .before .before .before .pre .5 .filled .long)
+
+returns : tie.Need-returns Inv-loop μ-loop
+returns c = row-end (c .before .before .loop .inv) (search needs)
+
+pub fill-row-spec : {M : Type 1} → statement M
+fill-row-spec =
+    tie.close
+    (tie.spec
+    Inv-loop
+    μ-loop
+    above-requires
+    loop-holds
+    next-requires
+    pair-closeness-requires
+    mul-out
+    slice-write-out
+    add-at
+    loop-less
+    loop-again
+    same-length
+    returns)
