@@ -23,10 +23,10 @@ use Rattle.season.proofs.Found.{SoundSeason, no-fault}
 use Rattle.tables.specs.Tables.{Tables}
 use Rattle.timetable.specs.OfSheet.{Teams, above, Builds}
 use Rattle.timetable.specs.declared.Built.{Built}
-use Rattle.admission.specs.Admission.{Admits, refusedBy}
+use Rattle.admission.specs.Admission.{Admits, notAdmitted}
 
 -- a refusal says nothing of the tables
-refusal : {s : List ℕ} {b : Buffers} {t : Tables} (k : ℕ) → openFault s b ≡ suc k → Admits s b (refusedBy (suc k)) t
+refusal : {s : List ℕ} {b : Buffers} {t : Tables} (k : ℕ) → openFault s b ≡ suc k → Admits s b (notAdmitted (suc k)) t
 refusal k e = record { number = sym e; ready = λ z. absurd (omega arith) }
 
 module _ (s : List ℕ) (b : Buffers) {r : Examined} (x : Examination (ofSeason s) s r) where
@@ -41,10 +41,10 @@ module _ (s : List ℕ) (b : Buffers) {r : Examined} (x : Examination (ofSeason 
       ∙ ap (λ (f : ℕ). orElse f ofRest) (sym (x .fault))
 
   -- a fault of the season comes first
-  pub season-refused : {t : Tables} → (r .fault ≡ 0 → ⊥) → Admits s b (refusedBy (r .fault)) t
+  pub season-refused : {t : Tables} → (r .fault ≡ 0 → ⊥) → Admits s b (notAdmitted (r .fault)) t
   season-refused {t} some = go (r .fault) season-then-rest some
     where
-      go : (f : ℕ) → openFault s b ≡ orElse f ofRest → (f ≡ 0 → ⊥) → Admits s b (refusedBy f) t
+      go : (f : ℕ) → openFault s b ≡ orElse f ofRest → (f ≡ 0 → ⊥) → Admits s b (notAdmitted f) t
       go zero e some = absurd (some refl)
       go (suc k) e some = refusal k e
 
@@ -75,7 +75,7 @@ module _ (s : List ℕ) (b : Buffers) {r : Examined} (x : Examination (ofSeason 
     unfolding sentence7
     seven = rw (games-read s e, constraints-read s e, x .entries none)
 
-    pub lengths-refused : {t : Tables} → misfit ≡ true → Admits s b (refusedBy 7) t
+    pub lengths-refused : {t : Tables} → misfit ≡ true → Admits s b (notAdmitted 7) t
     unfolding firstTrue
     lengths-refused h = refusal 6 (rest ∙ rw (seven, h))
 
@@ -115,7 +115,7 @@ module _ (s : List ℕ) (b : Buffers) {r : Examined} (x : Examination (ofSeason 
 
       -- .. and what it tells
       module _ {v : Built} {t : Tables} (w : Builds (z .slots) (decode s .home) (decode s .away) (b .sheet) v t) where
-        pub sheet-refused : v .fits ≡ false → Admits s b (refusedBy 8) t
+        pub sheet-refused : v .fits ≡ false → Admits s b (notAdmitted 8) t
         unfolding firstTrue
         sheet-refused f = refusal 7 (rest ∙ rw (seven, fit, eight, not-false bad (sym (w .answer) ∙ f)))
 

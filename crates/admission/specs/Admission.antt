@@ -23,8 +23,8 @@ pub record Admits (season : List ℕ) (b : Buffers) (r : Admission) (t : Tables)
   pub number : r .fault ≡ openFault season b
   pub ready : r .fault ≡ 0 → Ready season b (r .sizes) (r .unplaced) t
 
-abbrev pub refusedBy : ℕ → Admission
-refusedBy number = record { fault = number; sizes = record { teams = 0; slots = 0; games = 0; constraints = 0 }; unplaced = 0 }
+abbrev pub notAdmitted : ℕ → Admission
+notAdmitted number = record { fault = number; sizes = record { teams = 0; slots = 0; games = 0; constraints = 0 }; unplaced = 0 }
 
 -- what a set or an exchange that has passed them answers and leaves
 abbrev pub afterEntry : Instance → Buffers → Call → Outcome

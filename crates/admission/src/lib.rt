@@ -10,7 +10,7 @@ ghost use Rattle.robinx.specs.Calls.{buffers};
 ghost use Rattle.reader.specs.Sizes.{Measured};
 ghost use Rattle.tables.specs.Tables.{tables};
 ghost use Rattle.timetable.specs.OfSheet.{Teams, Empty, Builds};
-ghost use Rattle.admission.specs.Admission.{Admits, refusedBy};
+ghost use Rattle.admission.specs.Admission.{Admits, notAdmitted};
 use robinx::Season;
 use robinx::Slots;
 use timetable::Built;
@@ -22,8 +22,8 @@ pub struct Admission {
     pub unplaced: usize,
 }
 
-fn refused_by(number: u8) -> Admission
-    ensures { λ r. ⌜ r ≡ refusedBy number ⌝ }
+fn not_admitted(number: u8) -> Admission
+    ensures { λ r. ⌜ r ≡ notAdmitted number ⌝ }
 {
     Admission {
         fault: number,
@@ -79,11 +79,11 @@ pub fn admit(
 {
     let e = season::examine(season);
     if e.fault != 0 {
-        return refused_by(e.fault);
+        return not_admitted(e.fault);
     }
     let z = e.sizes;
     if lengths_bad(z, e.entries, sheet.len(), ledger.len(), tally.len()) {
-        return refused_by(7);
+        return not_admitted(7);
     }
     let b = lay_tables(season, z, sheet, home, away, meets);
     if b.fits {
@@ -93,5 +93,5 @@ pub fn admit(
             unplaced: b.unplaced,
         };
     }
-    refused_by(8)
+    not_admitted(8)
 }

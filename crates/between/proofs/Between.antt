@@ -20,10 +20,10 @@ use Rattle.robinx.specs.declared.Constraint.{Constraint}
 use Rattle.robinx.proofs.Filled.{filled-one}
 use Rattle.robinx.proofs.Bits.{or-has, none-bit, bit-lt}
 use Rattle.tables.specs.Tables.{Tables}
-use Rattle.opponents.specs.Figures.{Ready}
+use Rattle.opponents.specs.Fillable.{Fillable}
 use Rattle.opponents.specs.Games.{MaskOf}
 use Rattle.between.specs.Between.{guests, hosts, MasksOf}
-use Rattle.opponents.proofs.Ready.{over-slots}
+use Rattle.opponents.proofs.Fillable.{over-slots}
 
 only-has : (b : Bool) (m k : ℕ) → has (only b m) k ≡ b && has m k
 only-has true m k = refl
@@ -89,7 +89,7 @@ unfolding gamesBetween hosts
 columns-between n x d T1 T2 h k l = sum-ext n (λ i li. h .mask i li k l)
 
 -- The constraint's own groups.
-module _ {n P : ℕ} {c : Constraint} {ts : Tables} {out : List ℕ} (r : Ready n P c ts out) where
+module _ {n P : ℕ} {c : Constraint} {ts : Tables} {out : List ℕ} (r : Fillable n P c ts out) where
   pub one-figure : (x : X) (d : ℕ) {g v : ℕ} → length out ≡ 1
       → g ≡ over mostSlots (slotsOf c) (gamesBetween n x d (c .t1) (c .t2)) → v ≡ outside (c .kmin) (c .kmax) g
       → set out 0 v ≡ outside (c .kmin) (c .kmax) (over P (slotsOf c) (gamesBetween n x d (c .t1) (c .t2))) ∷ []

@@ -9,7 +9,7 @@ ghost use Rattle.robinx.specs.Groups.{bit, size};
 ghost use Rattle.robinx.specs.Timetable.{gamesBetween};
 ghost use Rattle.robinx.specs.Deviations.{each, over, outside, devCA4, devGA1};
 ghost use Rattle.tables.specs.Tables.{tables, xOf};
-ghost use Rattle.opponents.specs.Figures.{Ready, Given};
+ghost use Rattle.opponents.specs.Fillable.{Fillable, TiedGroup};
 ghost use Rattle.opponents.specs.Games.{MaskOf};
 ghost use Rattle.between.specs.Between.{guests, hosts, MasksOf};
 use opponents::against;
@@ -53,7 +53,7 @@ fn hosted(
     meets: &[Slots; Season::PLACES],
     i: usize,
 ) -> Slots
-    requires { ⌜ (i < n) × Given n t1 (tables (now home) (now away) (now meets)) × (t2 < 2 ^ n) ⌝ }
+    requires { ⌜ (i < n) × TiedGroup n t1 (tables (now home) (now away) (now meets)) × (t2 < 2 ^ n) ⌝ }
     ensures { λ r. ⌜ MaskOf (hosts n (xOf (now (meets .entry))) sides t1 t2 i) r ⌝ }
 {
     against(meets, home, away, 1, guests(sides, t1, t2, i), i, n)
@@ -70,7 +70,7 @@ fn games_in(
     away: &[Slots; Season::TEAMS],
     meets: &[Slots; Season::PLACES],
 ) -> u32
-    requires { ⌜ Given n t1 (tables (now home) (now away) (now meets)) × (t2 < 2 ^ n) ⌝ }
+    requires { ⌜ TiedGroup n t1 (tables (now home) (now away) (now meets)) × (t2 < 2 ^ n) ⌝ }
     ensures { λ r. ⌜ r ≡ over mostSlots s (gamesBetween n (xOf (now (meets .entry))) sides t1 t2) ⌝ }
 {
     let mut v: u32 = 0;
@@ -93,7 +93,7 @@ fn lay_hosted(
     meets: &[Slots; Season::PLACES],
     words: &mut [Slots; Season::TEAMS],
 )
-    requires { ⌜ (length (now words) ≡ mostTeams) × Given n t1 (tables (now home) (now away) (now meets)) × (t2 < 2 ^ n) ⌝ }
+    requires { ⌜ (length (now words) ≡ mostTeams) × TiedGroup n t1 (tables (now home) (now away) (now meets)) × (t2 < 2 ^ n) ⌝ }
     ensures { λ _. ⌜ MasksOf (hosts n (xOf (now (meets .entry))) sides t1 t2) (now (words .exit)) n ⌝ }
 {
     let mut i: usize = 0;
@@ -157,7 +157,7 @@ pub fn fill_ca4(
     meets: &[Slots; Season::PLACES],
     out: &mut [u32],
 )
-    requires { ⌜ Ready n p c (tables (now home) (now away) (now meets)) (now out) × (c .kind ≡ 14) ⌝ }
+    requires { ⌜ Fillable n p c (tables (now home) (now away) (now meets)) (now out) × (c .kind ≡ 14) ⌝ }
     ensures { λ _. ⌜ now (out .exit) ≡ devCA4 n p c (xOf (now (meets .entry))) ⌝ }
 {
     let sides = mode_sides(c.mode);
@@ -184,7 +184,7 @@ pub fn fill_ga1(
     meets: &[Slots; Season::PLACES],
     out: &mut [u32],
 )
-    requires { ⌜ Ready n p c (tables (now home) (now away) (now meets)) (now out) × (c .kind ≡ 21) ⌝ }
+    requires { ⌜ Fillable n p c (tables (now home) (now away) (now meets)) (now out) × (c .kind ≡ 21) ⌝ }
     ensures { λ _. ⌜ now (out .exit) ≡ devGA1 n p c (xOf (now (meets .entry))) ⌝ }
 {
     out[0] = outside(

@@ -1,4 +1,4 @@
 pub mod Laid
 pub mod Walked
-pub mod Turns
+pub mod WalkTurns
 pub mod Totalled

@@ -20,7 +20,7 @@ use Rattle.books.specs.Walk.{isTouched, stored, Reworked}
 use Rattle.books.specs.Answer.{replyOf, Opened, Answered}
 use Rattle.books.specs.declared.walk.Touch.{Touch}
 use Rattle.books.specs.declared.walk.Moved.{Moved}
-use Rattle.totals.proofs.Running.{hard-change, soft-change}
+use Rattle.totals.proofs.RunningTotals.{hard-change, soft-change}
 
 -- a list of two
 two : (l : List ℕ) → length l ≡ 2 → (a : ℕ) × (b : ℕ) × (l ≡ a ∷ b ∷ [])

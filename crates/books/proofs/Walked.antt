@@ -13,18 +13,18 @@ use Rattle.robinx.specs.Books.{deviationsAt, penaltyAt, entriesAt, startAt, all
 use Rattle.robinx.specs.Calls.{stretchAt, reworkedStretch, reworkedPenalty, gained, lost}
 use Rattle.totals.specs.declared.Totals.{Totals}
 use Rattle.robinx.proofs.Lengths.{length-deviations}
-use Rattle.totals.specs.Running.{Holds, Adds}
+use Rattle.totals.specs.RunningTotals.{TotalsOf, Adds}
 use Rattle.books.specs.Walk.{Reworked}
 use Rattle.books.specs.declared.walk.Moved.{Moved}
-use Rattle.totals.proofs.Running.{gathered, holds-more, holds-same, gathered-more, gathered-same}
+use Rattle.totals.proofs.RunningTotals.{gathered, holds-more, holds-same, gathered-more, gathered-same}
 use Rattle.books.proofs.Laid.{Laid, laid-none, laid-fits, laid-more, laid-kept, laid-done, Listed, listed-old, listed-more, listed-kept}
 
 module _ (m : Instance) (t : ℕ → Bool) (x : X) (ledger₀ tally₀ : List ℕ) where
   pub record Walked (k at : ℕ) (ledger tally : List ℕ) (got gone : Totals) : Type 0 where
     pub laid : Laid (entriesAt m) (reworkedStretch m t x ledger₀) ledger₀ k at ledger
     pub listed : Listed (reworkedPenalty m t x tally₀) tally₀ k tally
-    pub got-holds : Holds (gathered m t (penaltyAt m x) k) got
-    pub gone-holds : Holds (gathered m t (λ c. getD tally₀ c 0) k) gone
+    pub got-holds : TotalsOf (gathered m t (penaltyAt m x) k) got
+    pub gone-holds : TotalsOf (gathered m t (λ c. getD tally₀ c 0) k) gone
 
   pub walked-none : (z : Totals) → z .hard ≡ 0 → z .soft ≡ 0 → Walked 0 0 ledger₀ tally₀ z z
   unfolding sumTo

@@ -14,7 +14,7 @@ use Rattle.robinx.specs.Books.{deviationsAt, penaltyAt, isHard, isSoft, total}
 use Rattle.robinx.specs.Calls.{accepted, reworkedStretch, reworkedPenalty, change, movedTotal}
 use Rattle.robinx.specs.declared.Reply.{Reply}
 use Rattle.totals.specs.declared.Totals.{Totals}
-use Rattle.totals.specs.Running.{Holds}
+use Rattle.totals.specs.RunningTotals.{TotalsOf}
 
 -- the verdict by a count of the unplaced games
 abbrev pub verdictOf : ℕ → ℕ → ℕ
@@ -26,7 +26,7 @@ replyOf u d infeasibility = accepted (verdictOf u infeasibility) (toZ w64 (d .ha
 -- an opening: all figures are those of x, and t is their totals
 pub record Opened (m : Instance) (x : X) (u : ℕ) (ledger′ tally′ : List ℕ) (r : Reply) : Type 0 where
   pub t : Totals
-  pub totals : Holds (λ want. total want m x) t
+  pub totals : TotalsOf (λ want. total want m x) t
   pub ledger-is : ledger′ ≡ catTo (deviationsAt m x) (m .C)
   pub tally-is : tally′ ≡ listTo (penaltyAt m x) (m .C) ++ t .hard ∷ t .soft ∷ []
   pub reply-is : r ≡ replyOf u t (t .hard)

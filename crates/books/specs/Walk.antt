@@ -15,7 +15,7 @@ use Rattle.robinx.specs.declared.Season.{Season}
 use Rattle.reader.specs.Sizes.{Measured}
 use Rattle.tables.specs.Tables.{Tables, Tied}
 use Rattle.touch.specs.Touched.{Possible, Named, touchedByMove}
-use Rattle.totals.specs.Running.{Holds}
+use Rattle.totals.specs.RunningTotals.{TotalsOf}
 use Rattle.books.specs.declared.walk.Touch.{Touch}
 use Rattle.books.specs.declared.walk.Moved.{Moved}
 
@@ -29,7 +29,7 @@ pub record Given (s : List ℕ) (z : Season) (t : Tables) (ledger tally : List �
   pub tally-length : length tally ≡ decode s .C + 2
 
 -- the moves are possible, and `teams` has the teams of both
-pub record Sound (τ : Touch) : Type 0 where
+pub record SoundTouch (τ : Touch) : Type 0 where
   pub first : Possible (τ .first)
   pub second : Possible (τ .second)
   pub first-teams : Named (τ .teams) (τ .first)
@@ -43,8 +43,8 @@ isTouched τ c = τ .all || (touchedByMove (τ .first) c || touchedByMove (τ .s
 pub record Reworked (m : Instance) (t : ℕ → Bool) (x : X) (ledger tally ledger′ tally′ : List ℕ) (r : Moved) : Type 0 where
   pub ledger-is : ledger′ ≡ catTo (reworkedStretch m t x ledger) (m .C)
   pub tally-is : tally′ ≡ listTo (reworkedPenalty m t x tally) (m .C) ++ drop (m .C) tally
-  pub got : Holds (λ want. gained want m t x (m .C)) (r .gained)
-  pub gone : Holds (λ want. lost want m t tally (m .C)) (r .lost)
+  pub got : TotalsOf (λ want. gained want m t x (m .C)) (r .gained)
+  pub gone : TotalsOf (λ want. lost want m t tally (m .C)) (r .lost)
 
 -- the tally with its two totals written
 abbrev pub stored : List ℕ → ℕ → ℕ → ℕ → List ℕ

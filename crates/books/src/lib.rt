@@ -11,7 +11,7 @@ ghost use mir.Val.{toZ};
 ghost use Rattle.robinx.specs.Season.{decode};
 ghost use Rattle.robinx.specs.Calls.{movedTotal, accepted};
 ghost use Rattle.tables.specs.Tables.{tables, xOf};
-ghost use Rattle.books.specs.Walk.{Given, Sound, isTouched, stored};
+ghost use Rattle.books.specs.Walk.{Given, SoundTouch, isTouched, stored};
 ghost use Rattle.books.specs.Answer.{verdictOf, Opened, Answered};
 use robinx::Reply;
 use robinx::Season;
@@ -116,7 +116,7 @@ pub fn rework(
     ledger: &mut [u32],
     tally: &mut [u64],
 ) -> Reply
-    requires { ⌜ Given (now season) z (tables (now home) (now away) (now meets)) (now ledger) (now tally) × Sound touch ⌝ }
+    requires { ⌜ Given (now season) z (tables (now home) (now away) (now meets)) (now ledger) (now tally) × SoundTouch touch ⌝ }
     ensures { λ r. ⌜ Answered (decode (now (season .entry))) (λ k. isTouched touch (decode (now (season .entry)) .constraint k))
         (xOf (now (meets .entry))) unplaced (now (ledger .entry)) (now (tally .entry)) (now (ledger .exit)) (now (tally .exit)) r ⌝ }
 {

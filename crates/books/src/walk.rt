@@ -7,10 +7,10 @@ ghost use Rattle.robinx.specs.Season.{decode};
 ghost use Rattle.robinx.specs.Deviations.{deviations};
 ghost use Rattle.robinx.specs.Penalty.{penalty};
 ghost use Rattle.tables.specs.Tables.{tables, xOf};
-ghost use Rattle.opponents.specs.Figures.{Ready};
+ghost use Rattle.opponents.specs.Fillable.{Fillable};
 ghost use Rattle.touch.specs.Touched.{Possible};
-ghost use Rattle.totals.specs.Running.{Adds};
-ghost use Rattle.books.specs.Walk.{Given, Sound, isTouched, Reworked};
+ghost use Rattle.totals.specs.RunningTotals.{Adds};
+ghost use Rattle.books.specs.Walk.{Given, SoundTouch, isTouched, Reworked};
 use figures::fill;
 use kinds::form_of;
 use robinx::Constraint;
@@ -40,7 +40,7 @@ pub struct Moved {
 
 // A walk that works out every constraint.
 pub fn everything() -> Touch
-    ensures { λ r. ⌜ (r .all ≡ true) × Sound r ⌝ }
+    ensures { λ r. ⌜ (r .all ≡ true) × SoundTouch r ⌝ }
 {
     let none = no_move();
     Touch {
@@ -54,7 +54,7 @@ pub fn everything() -> Touch
 // One that works out what a move of two touches.
 pub fn moves(first: Move, second: Move) -> Touch
     requires { ⌜ Possible first × Possible second ⌝ }
-    ensures { λ r. ⌜ (r .all ≡ false) × (r .first ≡ first) × (r .second ≡ second) × Sound r ⌝ }
+    ensures { λ r. ⌜ (r .all ≡ false) × (r .first ≡ first) × (r .second ≡ second) × SoundTouch r ⌝ }
 {
     Touch {
         all: false,
@@ -66,7 +66,7 @@ pub fn moves(first: Move, second: Move) -> Touch
 
 // Most constraints have no team of the moves in T1, and are passed over.
 fn is_touched(c: Constraint, touch: Touch) -> bool
-    requires { ⌜ Sound touch ⌝ }
+    requires { ⌜ SoundTouch touch ⌝ }
     ensures { λ r. ⌜ r ≡ isTouched touch c ⌝ }
 {
     if touch.all {
@@ -89,7 +89,7 @@ pub fn price(
     meets: &[Slots; Season::PLACES],
     stretch: &mut [u32],
 ) -> u64
-    requires { ⌜ Ready n p c (tables (now home) (now away) (now meets)) (now stretch) ⌝ }
+    requires { ⌜ Fillable n p c (tables (now home) (now away) (now meets)) (now stretch) ⌝ }
     ensures { λ r. ⌜ (now (stretch .exit) ≡ deviations n p c (xOf (now (meets .entry))))
         × (r ≡ penalty c (deviations n p c (xOf (now (meets .entry))))) ⌝ }
 {
@@ -124,7 +124,7 @@ fn renew(
     stretch: &mut [u32],
     tally: &mut [u64],
 ) -> Moved
-    requires { ⌜ Ready (z .teams) (z .slots) c (tables (now home) (now away) (now meets)) (now stretch) × (k < length (now tally)) ⌝ }
+    requires { ⌜ Fillable (z .teams) (z .slots) c (tables (now home) (now away) (now meets)) (now stretch) × (k < length (now tally)) ⌝ }
     ensures { λ r. ⌜ (now (stretch .exit) ≡ deviations (z .teams) (z .slots) c (xOf (now (meets .entry))))
         × (now (tally .exit) ≡ set (now (tally .entry)) k (penalty c (deviations (z .teams) (z .slots) c (xOf (now (meets .entry))))))
         × Adds (sums .gained) (c .hard) (penalty c (deviations (z .teams) (z .slots) c (xOf (now (meets .entry))))) (r .gained)
@@ -145,7 +145,7 @@ pub fn walk(
     ledger: &mut [u32],
     tally: &mut [u64],
 ) -> Moved
-    requires { ⌜ Given (now season) z (tables (now home) (now away) (now meets)) (now ledger) (now tally) × Sound touch ⌝ }
+    requires { ⌜ Given (now season) z (tables (now home) (now away) (now meets)) (now ledger) (now tally) × SoundTouch touch ⌝ }
     ensures { λ r. ⌜ Reworked (decode (now (season .entry))) (λ k. isTouched touch (decode (now (season .entry)) .constraint k))
         (xOf (now (meets .entry))) (now (ledger .entry)) (now (tally .entry)) (now (ledger .exit)) (now (tally .exit)) r ⌝ }
 {

@@ -10,7 +10,7 @@ ghost use Rattle.robinx.specs.Rules.{obeys};
 ghost use Rattle.robinx.specs.Deviations.{over, offTarget, breaks, devBR1, devBR2};
 ghost use Rattle.masks.specs.Masks.{Within, isBreak};
 ghost use Rattle.tables.specs.Tables.{tables, Tied, xOf};
-ghost use Rattle.opponents.specs.Figures.{Ready};
+ghost use Rattle.opponents.specs.Fillable.{Fillable};
 use groups::Members;
 use masks::breaks_in;
 use masks::union;
@@ -72,19 +72,19 @@ pub fn fill_breaks(
     meets: &[Slots; Season::PLACES],
     out: &mut [u32],
 )
-    requires { ⌜ Ready n p c (tables (now home) (now away) (now meets)) (now out) × (c .kind ≡ 31) ⌝ }
+    requires { ⌜ Fillable n p c (tables (now home) (now away) (now meets)) (now out) × (c .kind ≡ 31) ⌝ }
     ensures { λ _. ⌜ now (out .exit) ≡ devBR1 n p c (xOf (now (meets .entry))) ⌝ }
 {
-    let mut e = 0;
+    let mut at = 0;
     let mut m = Members::of(c.t1);
     while m.rest != 0 {
         m = m.next();
-        out[e] = off_target(
+        out[at] = off_target(
             c.mode,
             c.kmax,
             team_breaks(c, n, p, home, away, meets, m.team),
         );
-        e += 1;
+        at += 1;
     }
 }
 
@@ -119,7 +119,7 @@ pub fn fill_all_breaks(
     meets: &[Slots; Season::PLACES],
     out: &mut [u32],
 )
-    requires { ⌜ Ready n p c (tables (now home) (now away) (now meets)) (now out) × (c .kind ≡ 32) ⌝ }
+    requires { ⌜ Fillable n p c (tables (now home) (now away) (now meets)) (now out) × (c .kind ≡ 32) ⌝ }
     ensures { λ _. ⌜ now (out .exit) ≡ devBR2 n p c (xOf (now (meets .entry))) ⌝ }
 {
     out[0] = off_target(c.mode, c.kmax, group_breaks(c, n, p, home, away, meets));

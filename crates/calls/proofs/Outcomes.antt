@@ -25,7 +25,7 @@ use Rattle.season.proofs.Found.{measured}
 use Rattle.tables.specs.Tables.{Tables, xOf}
 use Rattle.timetable.specs.OfSheet.{unplaced}
 use Rattle.touch.specs.Touched.{noMove}
-use Rattle.books.specs.Walk.{Given, Sound, isTouched}
+use Rattle.books.specs.Walk.{Given, SoundTouch, isTouched}
 use Rattle.books.specs.Answer.{Opened, Answered}
 use Rattle.touch.specs.declared.Move.{Move}
 use Rattle.books.specs.declared.walk.Touch.{Touch}
@@ -135,7 +135,7 @@ reworked-is {m} b {t = t} {x} {u} k w et same eu =
 
 -- a walk that reworks what two moves touch
 abbrev pub OfMoves : Touch → Move → Move → Type 0
-OfMoves τ first second = (τ .all ≡ false) × (τ .first ≡ first) × (τ .second ≡ second) × Sound τ
+OfMoves τ first second = (τ .all ≡ false) × (τ .first ≡ first) × (τ .second ≡ second) × SoundTouch τ
 
 module _ (m : Instance) (sheet : List ℕ) (τ : Touch) {first second : Move} (w : OfMoves τ first second) where
   -- what a set's move touches

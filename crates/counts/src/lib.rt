@@ -5,7 +5,7 @@ ghost use Rattle.robinx.specs.Season.{mostTeams, mostSlots};
 ghost use Rattle.robinx.specs.Groups.{bit};
 ghost use Rattle.robinx.specs.Deviations.{deviations};
 ghost use Rattle.tables.specs.Tables.{tables, xOf};
-ghost use Rattle.opponents.specs.Figures.{Ready, Given};
+ghost use Rattle.opponents.specs.Fillable.{Fillable, TiedGroup};
 ghost use Rattle.opponents.specs.Games.{MaskOf};
 ghost use Rattle.counts.specs.TeamCounts.{FromZero, rivals, counted, offRuns};
 use groups::Members;
@@ -41,7 +41,7 @@ fn counted(
     meets: &[Slots; Season::PLACES],
     t: usize,
 ) -> Slots
-    requires { ⌜ (t < n) × (1 ≤ c .mode) × (11 ≤ c .kind) × (c .kind ≤ 13) × Given n (c .t2) (tables (now home) (now away) (now meets)) ⌝ }
+    requires { ⌜ (t < n) × (1 ≤ c .mode) × (11 ≤ c .kind) × (c .kind ≤ 13) × TiedGroup n (c .t2) (tables (now home) (now away) (now meets)) ⌝ }
     ensures { λ r. ⌜ MaskOf (counted n c (xOf (now (meets .entry))) t) r ⌝ }
 {
     against(meets, home, away, mode_sides(c.mode), rivals(c, n), t, n)
@@ -57,19 +57,19 @@ pub fn fill_counts(
     meets: &[Slots; Season::PLACES],
     out: &mut [u32],
 )
-    requires { ⌜ Ready n p c (tables (now home) (now away) (now meets)) (now out) × (11 ≤ c .kind) × (c .kind ≤ 12) ⌝ }
+    requires { ⌜ Fillable n p c (tables (now home) (now away) (now meets)) (now out) × (11 ≤ c .kind) × (c .kind ≤ 12) ⌝ }
     ensures { λ _. ⌜ now (out .exit) ≡ deviations n p c (xOf (now (meets .entry))) ⌝ }
 {
-    let mut e = 0;
+    let mut at = 0;
     let mut m = Members::of(c.t1);
     while m.rest != 0 {
         m = m.next();
-        out[e] = outside(
+        out[at] = outside(
             c.kmin,
             c.kmax,
             count_in(counted(c, n, home, away, meets, m.team), c.s),
         );
-        e += 1;
+        at += 1;
     }
 }
 
@@ -96,15 +96,15 @@ pub fn fill_runs(
     meets: &[Slots; Season::PLACES],
     out: &mut [u32],
 )
-    requires { ⌜ Ready n p c (tables (now home) (now away) (now meets)) (now out) × (c .kind ≡ 13) ⌝ }
+    requires { ⌜ Fillable n p c (tables (now home) (now away) (now meets)) (now out) × (c .kind ≡ 13) ⌝ }
     ensures { λ _. ⌜ now (out .exit) ≡ deviations n p c (xOf (now (meets .entry))) ⌝ }
 {
     let mut rows = [0u8; rows::PLACES];
-    let mut e = 0;
+    let mut at = 0;
     let mut m = Members::of(c.t1);
     while m.rest != 0 {
         m = m.next();
-        out[e] = runs_of(c, p, counted(c, n, home, away, meets, m.team), &mut rows);
-        e += 1;
+        out[at] = runs_of(c, p, counted(c, n, home, away, meets, m.team), &mut rows);
+        at += 1;
     }
 }

@@ -9,8 +9,8 @@ ghost use Rattle.robinx.specs.Deviations.{each, eachPair, devFA1, devFA2};
 ghost use Rattle.robinx.proofs.Filled.{FilledRows};
 ghost use Rattle.tables.specs.Tables.{tables, xOf};
 ghost use Rattle.rows.specs.Rows.{places, laidAt};
-ghost use Rattle.opponents.specs.Figures.{Ready, Given};
-ghost use Rattle.fairness.specs.Running.{running, Counted, rowsApart, sidesApart};
+ghost use Rattle.opponents.specs.Fillable.{Fillable, TiedGroup};
+ghost use Rattle.fairness.specs.RunningCounts.{running, Counted, rowsApart, sidesApart};
 use groups::Members;
 use opponents::against;
 use opponents::measure::less;
@@ -31,7 +31,7 @@ fn lay_games(
     rows: &mut [u8; rows::PLACES],
     r: usize,
 )
-    requires { ⌜ (t < n) × (r < mostTeams) × Given n group (tables (now home) (now away) (now meets)) ⌝ }
+    requires { ⌜ (t < n) × (r < mostTeams) × TiedGroup n group (tables (now home) (now away) (now meets)) ⌝ }
     ensures { λ _. ⌜ now (rows .exit) ≡ laidAt (now (rows .entry)) (r * mostSlots) (running n (xOf (now (meets .entry))) sides group t) mostSlots ⌝ }
 {
     rows::lay_at(
@@ -70,7 +70,7 @@ fn imbalance(
     rows: &mut [u8; rows::PLACES],
     t: usize,
 ) -> u32
-    requires { ⌜ (t < n) × (length (now rows) ≡ places) × Given n group (tables (now home) (now away) (now meets)) ⌝ }
+    requires { ⌜ (t < n) × (length (now rows) ≡ places) × TiedGroup n group (tables (now home) (now away) (now meets)) ⌝ }
     ensures { λ r. ⌜ (r ≡ sidesApart n (xOf (now (meets .entry))) group (now (e .entry)) kmax t)
         × (length (now (rows .exit)) ≡ places) ⌝ }
 {
@@ -90,7 +90,7 @@ fn fill_teams(
     rows: &mut [u8; rows::PLACES],
     out: &mut [u32],
 )
-    requires { ⌜ (length (now rows) ≡ places) × (length (now out) ≡ size n group) × Given n group (tables (now home) (now away) (now meets)) ⌝ }
+    requires { ⌜ (length (now rows) ≡ places) × (length (now out) ≡ size n group) × TiedGroup n group (tables (now home) (now away) (now meets)) ⌝ }
     ensures { λ _. ⌜ now (out .exit) ≡ each n group (sidesApart n (xOf (now (meets .entry))) group (now (e .entry)) kmax) ⌝ }
 {
     let mut at: usize = 0;
@@ -112,7 +112,7 @@ pub fn fill_fa1(
     meets: &[Slots; Season::PLACES],
     out: &mut [u32],
 )
-    requires { ⌜ Ready n p c (tables (now home) (now away) (now meets)) (now out) × (c .kind ≡ 41) ⌝ }
+    requires { ⌜ Fillable n p c (tables (now home) (now away) (now meets)) (now out) × (c .kind ≡ 41) ⌝ }
     ensures { λ _. ⌜ now (out .exit) ≡ devFA1 n p c (xOf (now (meets .entry))) ⌝ }
 {
     let mut e = [0u8; Season::SLOTS];
@@ -131,7 +131,7 @@ fn lay_teams(
     meets: &[Slots; Season::PLACES],
     rows: &mut [u8; rows::PLACES],
 )
-    requires { ⌜ (length (now rows) ≡ places) × Given n group (tables (now home) (now away) (now meets)) ⌝ }
+    requires { ⌜ (length (now rows) ≡ places) × TiedGroup n group (tables (now home) (now away) (now meets)) ⌝ }
     ensures { λ _. ⌜ Counted n (xOf (now (meets .entry))) sides group (now (rows .exit)) n ⌝ }
 {
     let mut m = Members::of(group);
@@ -194,7 +194,7 @@ pub fn fill_fa2(
     meets: &[Slots; Season::PLACES],
     out: &mut [u32],
 )
-    requires { ⌜ Ready n p c (tables (now home) (now away) (now meets)) (now out) × (c .kind ≡ 42) ⌝ }
+    requires { ⌜ Fillable n p c (tables (now home) (now away) (now meets)) (now out) × (c .kind ≡ 42) ⌝ }
     ensures { λ _. ⌜ now (out .exit) ≡ devFA2 n p c (xOf (now (meets .entry))) ⌝ }
 {
     let mut e = [0u8; Season::SLOTS];

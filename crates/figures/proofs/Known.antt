@@ -9,10 +9,10 @@ use Rattle.robinx.specs.declared.Constraint.{Constraint}
 use Rattle.robinx.proofs.Limits.{known}
 use Rattle.robinx.proofs.Unknown.{NoKind, unknown-kind}
 use Rattle.tables.specs.Tables.{Tables, xOf}
-use Rattle.opponents.specs.Figures.{Ready}
-use Rattle.opponents.proofs.Ready.{limits}
+use Rattle.opponents.specs.Fillable.{Fillable}
+use Rattle.opponents.proofs.Fillable.{limits}
 
-module _ {n P : ℕ} {c : Constraint} {ts : Tables} {out : List ℕ} (r : Ready n P c ts out) where
+module _ {n P : ℕ} {c : Constraint} {ts : Tables} {out : List ℕ} (r : Fillable n P c ts out) where
   -- the deviations of the kind with number k
   pub of-number : {l : List ℕ} (k : ℕ) → c .kind ≡ k → l ≡ deviationsOf (kindOf k) n P c (xOf (ts .meets)) → l ≡ deviations n P c (xOf (ts .meets))
   unfolding deviations

@@ -3,7 +3,7 @@ ghost use mathlib.Core.Path.{_≡_};
 ghost use Prim.Native.Nat.{_≤_};
 ghost use Rattle.robinx.specs.Deviations.{deviations};
 ghost use Rattle.tables.specs.Tables.{tables, xOf};
-ghost use Rattle.opponents.specs.Figures.{Ready};
+ghost use Rattle.opponents.specs.Fillable.{Fillable};
 use robinx::Constraint;
 use robinx::Season;
 use robinx::Slots;
@@ -18,7 +18,7 @@ fn fill_capacity(
     meets: &[Slots; Season::PLACES],
     out: &mut [u32],
 )
-    requires { ⌜ Ready n p c (tables (now home) (now away) (now meets)) (now out) × (10 ≤ c .kind) × (c .kind ≤ 19) ⌝ }
+    requires { ⌜ Fillable n p c (tables (now home) (now away) (now meets)) (now out) × (10 ≤ c .kind) × (c .kind ≤ 19) ⌝ }
     ensures { λ _. ⌜ now (out .exit) ≡ deviations n p c (xOf (now (meets .entry))) ⌝ }
 {
     let kind = c.kind;
@@ -41,7 +41,7 @@ fn fill_break(
     meets: &[Slots; Season::PLACES],
     out: &mut [u32],
 )
-    requires { ⌜ Ready n p c (tables (now home) (now away) (now meets)) (now out) × (30 ≤ c .kind) × (c .kind ≤ 39) ⌝ }
+    requires { ⌜ Fillable n p c (tables (now home) (now away) (now meets)) (now out) × (30 ≤ c .kind) × (c .kind ≤ 39) ⌝ }
     ensures { λ _. ⌜ now (out .exit) ≡ deviations n p c (xOf (now (meets .entry))) ⌝ }
 {
     let kind = c.kind;
@@ -62,7 +62,7 @@ fn fill_fairness(
     meets: &[Slots; Season::PLACES],
     out: &mut [u32],
 )
-    requires { ⌜ Ready n p c (tables (now home) (now away) (now meets)) (now out) × (40 ≤ c .kind) × (c .kind ≤ 49) ⌝ }
+    requires { ⌜ Fillable n p c (tables (now home) (now away) (now meets)) (now out) × (40 ≤ c .kind) × (c .kind ≤ 49) ⌝ }
     ensures { λ _. ⌜ now (out .exit) ≡ deviations n p c (xOf (now (meets .entry))) ⌝ }
 {
     let kind = c.kind;
@@ -83,7 +83,7 @@ pub fn fill(
     meets: &[Slots; Season::PLACES],
     out: &mut [u32],
 )
-    requires { ⌜ Ready n p c (tables (now home) (now away) (now meets)) (now out) ⌝ }
+    requires { ⌜ Fillable n p c (tables (now home) (now away) (now meets)) (now out) ⌝ }
     ensures { λ _. ⌜ now (out .exit) ≡ deviations n p c (xOf (now (meets .entry))) ⌝ }
 {
     let kind = c.kind;

@@ -3,7 +3,7 @@ use mathlib.Core.Path.{_≡_}
 use Prim.Native.Nat.{ℕ, _^_, _<_}
 use native.Mathlib.Omega.{arith}
 use Rattle.robinx.specs.Groups.{pairs}
-use Rattle.robinx.proofs.Sizes.{size-ones, pairs-size}
+use Rattle.robinx.proofs.GroupSizes.{size-ones, pairs-size}
 use Rattle.groups.specs.Pairs.{pairsIn}
 
 pub pairs-in : (n T : ℕ) → T < 2 ^ n → pairs n T ≡ pairsIn T

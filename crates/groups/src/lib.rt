@@ -5,7 +5,7 @@ ghost use lib.Count.{ones};
 ghost use Rattle.robinx.specs.Season.{mostTeams};
 ghost use Rattle.robinx.specs.Groups.{has};
 ghost use Rattle.groups.specs.Pairs.{pairsIn};
-ghost use Rattle.groups.specs.Walk.{From, Step};
+ghost use Rattle.groups.specs.MemberWalk.{From, Step};
 use robinx::Season;
 
 // Team t is in the group.

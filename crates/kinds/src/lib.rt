@@ -5,7 +5,7 @@ ghost use Prim.Native.Nat.{_≤_};
 ghost use Rattle.robinx.specs.Season.{mostTeams, mostSlots};
 ghost use Rattle.robinx.specs.Kinds.{Kind, form, formOf, formAt};
 ghost use Rattle.robinx.specs.Rules.{obeys};
-ghost use Rattle.rules.specs.Counted.{onesIn};
+ghost use Rattle.rules.specs.CountedBits.{onesIn};
 use groups::pairs_of;
 use groups::size_of;
 use robinx::Constraint;

@@ -9,7 +9,7 @@ use Rattle.robinx.specs.Sums.{only}
 use Rattle.robinx.specs.Groups.{bit, has, size}
 use Rattle.robinx.specs.Deviations.{over}
 use Rattle.robinx.proofs.Ext.{sum-ext}
-use Rattle.robinx.proofs.Sizes.{only-bit, size-ones}
+use Rattle.robinx.proofs.GroupSizes.{only-bit, size-ones}
 use Rattle.robinx.proofs.Bits.{and-has}
 
 both-only : (a b : Bool) → only (a && b) 1 ≡ only b (only a 1)

@@ -2,4 +2,4 @@ pub mod OneSlot
 pub mod Width
 pub mod Counts
 pub mod Carry
-pub mod Walk
+pub mod GapWalk

@@ -12,8 +12,8 @@ use Rattle.robinx.specs.Groups.{has}
 use Rattle.robinx.proofs.Sums.{max-step}
 use Rattle.robinx.proofs.Bits.{or-bit, none-bit}
 use Rattle.groups.specs.declared.Members.{Members}
-use Rattle.groups.specs.Walk.{Ahead, From, Step}
-use Rattle.groups.proofs.Walk.{to-next, to-end}
+use Rattle.groups.specs.MemberWalk.{Ahead, From, Step}
+use Rattle.groups.proofs.MemberWalk.{to-next, to-end}
 use Rattle.opponents.specs.Games.{Union}
 
 -- u is the union of the words of the members passed

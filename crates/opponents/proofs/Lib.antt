@@ -1,3 +1,3 @@
-pub mod Ready
+pub mod Fillable
 pub mod Games
 pub mod Gathered

@@ -8,7 +8,7 @@ ghost use Rattle.robinx.specs.Season.{mostTeams, mostPlaces};
 ghost use Rattle.robinx.specs.Sums.{only};
 ghost use Rattle.robinx.specs.Timetable.{gamesAgainst};
 ghost use Rattle.tables.specs.Tables.{tables, xOf};
-ghost use Rattle.opponents.specs.Figures.{Given};
+ghost use Rattle.opponents.specs.Fillable.{TiedGroup};
 ghost use Rattle.opponents.specs.Games.{MaskOf, ofSides, Union, UnionIf};
 use groups::Members;
 use masks::union;
@@ -81,7 +81,7 @@ pub fn against(
     t: usize,
     n: usize,
 ) -> Slots
-    requires { ⌜ (t < n) × Given n group (tables (now home) (now away) (now meets)) ⌝ }
+    requires { ⌜ (t < n) × TiedGroup n group (tables (now home) (now away) (now meets)) ⌝ }
     ensures { λ r. ⌜ MaskOf (gamesAgainst n (xOf (now (meets .entry))) sides group t) r ⌝ }
 {
     if group == groups::everyone(n) {

@@ -40,7 +40,7 @@ module _ (s : List ℕ) {z : Season} (e : z ≡ sizesOf s) where
   sizes-tested = rw (teams-read, slots-read, games-read, constraints-read)
 
 -- the ranges of sizes that are not outside
-pub record InRange (z : Season) : Type 0 where
+pub record SizesInRange (z : Season) : Type 0 where
   pub teams-least : 2 ≤ z .teams
   pub teams : z .teams ≤ mostTeams
   pub slots-least : 1 ≤ z .slots
@@ -48,7 +48,7 @@ pub record InRange (z : Season) : Type 0 where
   pub games : z .games ≤ mostGames
   pub constraints : z .constraints ≤ mostConstraints
 
-pub in-range : (z : Season) → outOfRange z ≡ false → InRange z
+pub in-range : (z : Season) → outOfRange z ≡ false → SizesInRange z
 unfolding outOfRange
 in-range z e =
     let constraints = and-yes (fits 2 mostTeams (z .teams) && fits 1 mostSlots (z .slots) && leb (z .games) mostGames) (leb (z .constraints) mostConstraints) (not-false _ e) in

@@ -18,7 +18,7 @@ use Rattle.robinx.proofs.Kept.{hard-held, soft-held}
 use Rattle.robinx.proofs.Demand3.{lengths, demand-3}
 use Rattle.replay.specs.declared.Played.{Played}
 use Rattle.replay.specs.Word.{word}
-use Rattle.replay.specs.Play.{last, Fresh, Plays, PlaysFresh}
+use Rattle.replay.specs.Play.{last, Fresh, Replays, ReplaysFresh}
 use Rattle.replay.proofs.Words.{word-small}
 
 -- an opening that is not declined has no fault
@@ -57,9 +57,9 @@ module _ (season plain : List ℕ) (o : Outcome) (f : Fresh season plain o) wher
   pub soft-low : getD (o .left .tally) (m .C + 1) 0 < 2 ^ 64
   soft-low = rw (tally-is, soft-held m plain) (omega (arith, low isSoft))
 
-pub plays-fresh : (season : List ℕ) (b : Buffers) (calls : List Call) (p : Played) (left : Buffers)
-    → openCall season b .reply .declined ≡ false → Plays season b calls p left → PlaysFresh season b calls p left
-plays-fresh season b calls p left accepted h =
+pub replays-fresh : (season : List ℕ) (b : Buffers) (calls : List Call) (p : Played) (left : Buffers)
+    → openCall season b .reply .declined ≡ false → Replays season b calls p left → ReplaysFresh season b calls p left
+replays-fresh season b calls p left accepted h =
     let d = demand-3 season b accepted calls in
     let plain = plainAfter (decode season) (b .sheet) calls in
     let f : Fresh season plain (outcome (p .reply) left) = rw (h .lasts) (d .2) in

@@ -1,4 +1,4 @@
 pub mod Words
 pub mod Lists
-pub mod Steps
+pub mod CallSteps
 pub mod Fresh

@@ -54,13 +54,13 @@ below (negsuc n) f t = record {
 }
 
 -- any other as a number
-pub record From (z : ℤ) : Type 0 where
+pub record NotNegative (z : ℤ) : Type 0 where
   pub n : ℕ
   pub small : n < 2 ^ 63
   pub is : z ≡ pos n
   pub reads : toZ w64 (ofZ w64 z) ≡ pos n
 
-pub from : (z : ℤ) → SFits w64 z → ltZ (toZ w64 (ofZ w64 z)) (pos 0) ≡ false → From z
+pub from : (z : ℤ) → SFits w64 z → ltZ (toZ w64 (ofZ w64 z)) (pos 0) ≡ false → NotNegative z
 from (pos n) f t = record { n = n; small = f .sfits; is = refl; reads = toZ-ofZ f }
 from (negsuc n) f t = absurd (true≢false (rw (toZ-ofZ f) at t))
 
@@ -68,7 +68,7 @@ pub below-word : {z : ℤ} (b : Below z) → 2 ^ 64 - 1 - b .n ≡ word z
 unfolding word
 below-word b = let h = b .small in rw (b .is) (omega arith)
 
-pub from-word : {z : ℤ} (b : From z) → b .n ≡ word z
+pub from-word : {z : ℤ} (b : NotNegative z) → b .n ≡ word z
 unfolding word
 from-word b = let h = b .small in rw (b .is) (omega arith)
 

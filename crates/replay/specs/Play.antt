@@ -37,14 +37,14 @@ withReply p r = record {
 
 -- The reply and the buffers are those of the last call, and each sum is that of the changes of all replies, the opening's first, modulo 2^64.
 -- Nothing is asked of season and buffers.
-pub record Plays (season : List ℕ) (b : Buffers) (calls : List Call) (p : Played) (left : Buffers) : Type 0 where
+pub record Replays (season : List ℕ) (b : Buffers) (calls : List Call) (p : Played) (left : Buffers) : Type 0 where
   pub lasts : outcome (p .reply) left ≡ last season (openCall season b) calls
   pub infeasibility : p .infeasibility ≡ word (added (λ (r : Reply). r .infeasibility) season (openCall season b) calls)
   pub objective : p .objective ≡ word (added (λ (r : Reply). r .objective) season (openCall season b) calls)
 
 -- After an accepted opening: the sheet is the plain sheet, ledger and tally are those of a fresh opening of it, and the sums are the two
 -- totals that the tally holds.
-pub record PlaysFresh (season : List ℕ) (b : Buffers) (calls : List Call) (p : Played) (left : Buffers) : Type 0 where
+pub record ReplaysFresh (season : List ℕ) (b : Buffers) (calls : List Call) (p : Played) (left : Buffers) : Type 0 where
   pub fresh : Fresh season (plainAfter (decode season) (b .sheet) calls) (outcome (p .reply) left)
   pub infeasibility : p .infeasibility ≡ getD (left .tally) (decode season .C) 0
   pub objective : p .objective ≡ getD (left .tally) (decode season .C + 1) 0

@@ -2,7 +2,7 @@
 ghost use mathlib.Core.Path.{_≡_};
 ghost use Rattle.robinx.specs.Calls.{buffers, outcome, callOn};
 ghost use Rattle.replay.specs.Word.{word};
-ghost use Rattle.replay.specs.Play.{callOf, callsOf, begun, withReply, Plays};
+ghost use Rattle.replay.specs.Play.{callOf, callsOf, begun, withReply, Replays};
 use robinx::Reply;
 
 // The last reply, and the sums of the changes of all replies, modulo 2^64.
@@ -74,7 +74,7 @@ pub fn play(
     tally: &mut [u64],
     calls: &[u64],
 ) -> Played
-    ensures { λ r. ⌜ Plays (now (season .entry)) (buffers (now (sheet .entry)) (now (ledger .entry)) (now (tally .entry)))
+    ensures { λ r. ⌜ Replays (now (season .entry)) (buffers (now (sheet .entry)) (now (ledger .entry)) (now (tally .entry)))
         (callsOf (now (calls .entry))) r (buffers (now (sheet .exit)) (now (ledger .exit)) (now (tally .exit))) ⌝ }
 {
     let mut played = Played::of(checker::season_open(season, &*sheet, ledger, tally));

@@ -16,35 +16,35 @@ use Rattle.reader.proofs.Read.{constraints-read}
 use Rattle.robinx.proofs.Passed.{orElse, first-of-both, none-true}
 use Rattle.robinx.proofs.Lengths.{length-tally}
 use Rattle.season.specs.declared.Examined.{Examined}
-use Rattle.report.specs.Answer.{upToSix, unlessFault, reportReply}
-use Rattle.report.specs.Rows.{Written, TallyOf, rowsOf, Reported}
+use Rattle.report.specs.ReportReply.{upToSix, replyUnless, reportReply}
+use Rattle.report.specs.ReportRows.{Written, TallyOf, rowsOf, Reported}
 use Rattle.report.proofs.Sixth.{UpToSix, clear}
 
-abbrev verdictOf : List ℕ → ℕ
-verdictOf input =
+abbrev reportVerdict : List ℕ → ℕ
+reportVerdict input =
     let m = decode (seasonOf input) in
     verdict m (sheetOf input) (total isHard m (timetable m (sheetOf input)))
 
-abbrev pub Answers : List ℕ → Reply → List ℕ → Type 0
-Answers input a tally =
+abbrev pub ReportAnswers : List ℕ → Reply → List ℕ → Type 0
+ReportAnswers input a tally =
     (a ≡ reportReply input) × (reportFault input ≡ 0 → TallyOf (seasonOf input) (sheetOf input) tally)
 
 -- sentences 7 and 8, with ledger and tally of the sizes that the season asks
-abbrev asked : List ℕ → List Sentence
-asked input = ofSheet (decode (seasonOf input)) (sheetOf input) (allEntries (decode (seasonOf input))) (decode (seasonOf input) .C + 2)
+abbrev afterSix : List ℕ → List Sentence
+afterSix input = ofSheet (decode (seasonOf input)) (sheetOf input) (allEntries (decode (seasonOf input))) (decode (seasonOf input) .C + 2)
 
 module _ (input : List ℕ) {r : Examined} (x : UpToSix (seasonOf input) r) where
-  six-then-asked : reportFault input ≡ orElse (r .fault) (firstTrue (asked input))
+  six-then-asked : reportFault input ≡ orElse (r .fault) (firstTrue (afterSix input))
   unfolding reportFault
   six-then-asked =
-      first-of-both (upToSix (seasonOf input)) (asked input) tt ∙ ap (λ (f : ℕ). orElse f (firstTrue (asked input))) (sym (x .fault))
+      first-of-both (upToSix (seasonOf input)) (afterSix input) tt ∙ ap (λ (f : ℕ). orElse f (firstTrue (afterSix input))) (sym (x .fault))
 
   -- one of the first six sentences gives the number
-  pub refused-early : (tally : List ℕ) {a : Reply} → (r .fault ≡ 0 → ⊥) → a ≡ declined (r .fault) → Answers input a tally
+  pub refused-early : (tally : List ℕ) {a : Reply} → (r .fault ≡ 0 → ⊥) → a ≡ declined (r .fault) → ReportAnswers input a tally
   unfolding reportReply
   refused-early tally {a} some e = go (r .fault) six-then-asked some e
     where
-      go : (f : ℕ) → reportFault input ≡ orElse f (firstTrue (asked input)) → (f ≡ 0 → ⊥) → a ≡ declined f → Answers input a tally
+      go : (f : ℕ) → reportFault input ≡ orElse f (firstTrue (afterSix input)) → (f ≡ 0 → ⊥) → a ≡ declined f → ReportAnswers input a tally
       go zero h some e = absurd (some refl)
       go (suc k) h some e = (rw h e, λ z. absurd (omega (arith, h, z)))
 
@@ -59,14 +59,14 @@ module _ (input : List ℕ) {r : Examined} (x : UpToSix (seasonOf input) r) wher
 
     pub opened-answers : (rest : List ℕ) {a : Reply} {ledger′ tally′ : List ℕ}
         → outcome a (buffers (sheetOf input) ledger′ tally′) ≡ openCall (seasonOf input) (buffers (sheetOf input) ledger tally)
-        → Answers input a (tally′ ++ rest)
+        → ReportAnswers input a (tally′ ++ rest)
     unfolding openCall reportReply opened
     opened-answers rest {a} {ledger′} {tally′} h = go (reportFault input) refl (rw same-fault h)
       where
         go : (f : ℕ) → reportFault input ≡ f
             → outcome a (buffers (sheetOf input) ledger′ tally′)
             ≡ unlessRefused f (opened (decode (seasonOf input)) (sheetOf input)) (buffers (sheetOf input) ledger tally)
-            → Answers input a (tally′ ++ rest)
+            → ReportAnswers input a (tally′ ++ rest)
         go zero e h = (
           rw e (ap (λ (o : Outcome). o .reply) h),
           λ _.
@@ -77,12 +77,12 @@ module _ (input : List ℕ) {r : Examined} (x : UpToSix (seasonOf input) r) wher
 
 -- a season and a sheet that were cut out of the input
 module _ (input : List ℕ) {s : List ℕ} (es : s ≡ seasonOf input) {r : Examined} (x : UpToSix s r) where
-  pub refused-early-of : (tally : List ℕ) {a : Reply} → (r .fault ≡ 0 → ⊥) → a ≡ declined (r .fault) → Answers input a tally
+  pub refused-early-of : (tally : List ℕ) {a : Reply} → (r .fault ≡ 0 → ⊥) → a ≡ declined (r .fault) → ReportAnswers input a tally
   refused-early-of = refused-early input (rw es at x)
 
   pub opened-answers-of : (none : r .fault ≡ 0) (ledger tally : List ℕ) → length ledger ≡ r .entries
       → length tally ≡ r .sizes .constraints + 2 → {sheet : List ℕ} → sheet ≡ sheetOf input → (rest : List ℕ) {a : Reply} {ledger′ tally′ : List ℕ}
-      → outcome a (buffers sheet ledger′ tally′) ≡ openCall s (buffers sheet ledger tally) → Answers input a (tally′ ++ rest)
+      → outcome a (buffers sheet ledger′ tally′) ≡ openCall s (buffers sheet ledger tally) → ReportAnswers input a (tally′ ++ rest)
   opened-answers-of none ledger tally el et eh rest h =
       opened-answers input (rw es at x) none ledger tally
       (el ∙ rw es at (x .entries none))
@@ -96,24 +96,24 @@ module _ (input : List ℕ) {a : Reply} (e : a ≡ reportReply input) where
   unfolding reportReply
   refusal-reported h words = go (reportFault input) _ refl e refl
     where
-      go : (f : ℕ) (r : Reply) → reportFault input ≡ f → a ≡ unlessFault f r → r .declined ≡ false
+      go : (f : ℕ) (r : Reply) → reportFault input ≡ f → a ≡ replyUnless f r → r .declined ≡ false
           → Reported input (record { fault = a .number; count = 0 }) words
       go zero r ef e n = absurd (true≢false (sym h ∙ ap (λ (r : Reply). r .declined) e ∙ n))
       go (suc k) r ef e n = record { fault = ap (λ (r : Reply). r .number) e ∙ sym ef; rows = λ z. absurd (omega (arith, ef, z)) }
 
   module _ (h : a .declined ≡ false) where
-    accepted-told : (reportFault input ≡ 0) × (a .number ≡ verdictOf input)
+    accepted-told : (reportFault input ≡ 0) × (a .number ≡ reportVerdict input)
     unfolding reportReply
     accepted-told = go (reportFault input) _ e
       where
-        go : (f : ℕ) (r : Reply) → a ≡ unlessFault f r → (f ≡ 0) × (a .number ≡ r .number)
+        go : (f : ℕ) (r : Reply) → a ≡ replyUnless f r → (f ≡ 0) × (a .number ≡ r .number)
         go zero r e = (refl, ap (λ (r : Reply). r .number) e)
         go (suc k) r e = absurd (true≢false (sym (ap (λ (r : Reply). r .declined) e) ∙ h))
 
     pub accepted-clear : firstTrue (ofSeason (seasonOf input)) ≡ 0
     unfolding reportFault firstTrue
     accepted-clear =
-        let c = none-true (upToSix (seasonOf input) ++ asked input) (accepted-told .0) in
+        let c = none-true (upToSix (seasonOf input) ++ afterSix input) (accepted-told .0) in
         rw (c .0, c .1 .0, c .1 .1 .0, c .1 .1 .1 .0, c .1 .1 .1 .1 .0)
 
     pub rows-reported : {s : List ℕ} → s ≡ seasonOf input → (tally : List ℕ)

@@ -1,2 +1,2 @@
-pub mod Answer
-pub mod Rows
+pub mod ReportReply
+pub mod ReportRows

@@ -12,7 +12,7 @@ use lib.Dec.{eqb, isEq, lit<}
 use borrow.Author.Tests.{eqb-true, ne-eqb}
 use Rattle.robinx.specs.Sums.{only}
 use Rattle.robinx.specs.Groups.{bit, has}
-use Rattle.robinx.proofs.Sizes.{only-bit}
+use Rattle.robinx.proofs.GroupSizes.{only-bit}
 
 pub bit-lt : (m k : ℕ) → bit m k < 2
 bit-lt m k = mod-lt (m / 2 ^ k) (zero-lt-suc 1)

@@ -19,7 +19,7 @@ use Rattle.robinx.specs.declared.Constraint.{Constraint}
 use Rattle.robinx.specs.declared.Shape.{Shape}
 use Rattle.robinx.specs.declared.Shape.the-variants.{Nothing, One, EachTeam, EachPair, OneOrEachSlot}
 use Rattle.robinx.proofs.Sums.{only-le, only-bound, sum-le, sum-bound, max-bound, sum-scale, sum-swap}
-use Rattle.robinx.proofs.Sizes.{size-le, pairs-size}
+use Rattle.robinx.proofs.GroupSizes.{size-le, pairs-size}
 
 -- Lists of any numbers.
 sum-append : (a b : List ℕ) → sum (a ++ b) ≡ sum a + sum b

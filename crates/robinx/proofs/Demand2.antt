@@ -38,17 +38,17 @@ module _ (m : Instance) (sheet : List ℕ) where
     objective = soft-held m sheet;
   }
 
-  abbrev unplaced : ℕ → Bool
-  unplaced g = eqb (getD sheet g 0) 0
+  abbrev hasNoSlot : ℕ → Bool
+  hasNoSlot g = eqb (getD sheet g 0) 0
 
   abbrev hard : ℕ → ℕ
   hard c = only (isHard (m .constraint c)) (penaltyAt m (timetable m sheet) c)
 
-  all-placed : anyTo unplaced (m .G) ≡ false → AllPlaced m sheet
-  all-placed e g l = eqb-false (getD sheet g 0) 0 (any-none unplaced (m .G) e g l)
+  all-placed : anyTo hasNoSlot (m .G) ≡ false → AllPlaced m sheet
+  all-placed e g l = eqb-false (getD sheet g 0) 0 (any-none hasNoSlot (m .G) e g l)
 
-  some-unplaced : anyTo unplaced (m .G) ≡ true → Unplaced m sheet
-  some-unplaced e = let s = some-any unplaced (m .G) e in (s .0, s .1, eqb-true _ 0 (s .2))
+  some-unplaced : anyTo hasNoSlot (m .G) ≡ true → Unplaced m sheet
+  some-unplaced e = let s = some-any hasNoSlot (m .G) e in (s .0, s .1, eqb-true _ 0 (s .2))
 
   all-kept : ltb 0 (total isHard m (timetable m sheet)) ≡ false → AllKept m sheet
   unfolding total
@@ -69,9 +69,9 @@ module _ (m : Instance) (sheet : List ℕ) where
 
   verdict-right : RightVerdict m sheet (verdict m sheet (total isHard m (timetable m sheet)))
   unfolding verdict
-  verdict-right = go (anyTo unplaced (m .G)) refl (ltb 0 (total isHard m (timetable m sheet))) refl
+  verdict-right = go (anyTo hasNoSlot (m .G)) refl (ltb 0 (total isHard m (timetable m sheet))) refl
     where
-      go : (u : Bool) → anyTo unplaced (m .G) ≡ u → (b : Bool) → ltb 0 (total isHard m (timetable m sheet)) ≡ b
+      go : (u : Bool) → anyTo hasNoSlot (m .G) ≡ u → (b : Bool) → ltb 0 (total isHard m (timetable m sheet)) ≡ b
           → RightVerdict m sheet (cond u 1 (cond b 2 0))
       go true e b d =
           let s = some-unplaced e in

@@ -4,7 +4,7 @@ pub mod Cases
 pub mod KindCases
 pub mod Sums
 pub mod Ext
-pub mod Sizes
+pub mod GroupSizes
 pub mod Bits
 pub mod SetBits
 pub mod Stops

@@ -16,10 +16,10 @@ use Rattle.robinx.specs.declared.Asks.{Asks}
 use Rattle.robinx.specs.declared.Shape.{Shape}
 use Rattle.robinx.specs.declared.Shape.the-variants.{Nothing, One, EachTeam, EachPair, OneOrEachSlot}
 use Rattle.robinx.proofs.Sums.{and-yes}
-use Rattle.robinx.proofs.Sizes.{size-ones}
+use Rattle.robinx.proofs.GroupSizes.{size-ones}
 use Rattle.robinx.proofs.Limits.{fits-in, holds-le, obeyed}
 use Rattle.groups.proofs.Pairs.{pairs-in}
-use Rattle.rules.specs.Counted.{headKeeps, countsKeep, groupsKeep, severalKeep, sizesKeep, onesIn}
+use Rattle.rules.specs.CountedBits.{headKeeps, countsKeep, groupsKeep, severalKeep, sizesKeep, onesIn}
 
 -- a test counts only where the one before it holds
 guarded : (a b x y : Bool) → (b ≡ true → x ≡ y) → a && b && x ≡ a && b && y

@@ -4,7 +4,7 @@ ghost use Prim.Native.Nat.{_-_, _≤_, _^_};
 ghost use Rattle.robinx.specs.Season.{mostTeams, mostSlots};
 ghost use Rattle.robinx.specs.Kinds.{asks};
 ghost use Rattle.robinx.specs.Rules.{fits, asked, holds, functionFits, keeps};
-ghost use Rattle.rules.specs.Counted.{headKeeps, countsKeep, groupsKeep, severalKeep, sizesKeep};
+ghost use Rattle.rules.specs.CountedBits.{headKeeps, countsKeep, groupsKeep, severalKeep, sizesKeep};
 use groups::size_of;
 use robinx::Constraint;
 use robinx::Field;

@@ -23,7 +23,7 @@ pub record Fit (n i j : ℕ) : Type 0 where
   pub differ : i ≡ j → ⊥
 
 -- after g games: their teams fit, and the table has every pair's meetings, at most 8
-pub record Counted (n : ℕ) (home away counts : List ℕ) (g : ℕ) : Type 0 where
+pub record MeetingsCounted (n : ℕ) (home away counts : List ℕ) (g : ℕ) : Type 0 where
   pub long : length counts ≡ mostPlaces
   pub fit : (k : ℕ) → k < g → Fit n (getD home k 0) (getD away k 0)
   pub met : (i j : ℕ) → Fit mostTeams i j → (getD counts (pairAt i j) 0 ≡ encounters home away i j g) × (encounters home away i j g ≤ mostMeetings)
@@ -75,7 +75,7 @@ tick l p q h = go (ℕ-discrete q p)
     go (yes e) = rw (e, eq-eqb p p refl) (getD-set-same l p (getD l p 0 + 1) 0 h)
     go (no e) = rw (ne-eqb q p e, getD-set-other l p q (getD l p 0 + 1) 0 e) (omega arith)
 
-pub counted-none : (n : ℕ) (home away : List ℕ) → Counted n home away (replicate mostPlaces 0) 0
+pub counted-none : (n : ℕ) (home away : List ℕ) → MeetingsCounted n home away (replicate mostPlaces 0) 0
 unfolding encounters sumTo
 counted-none n home away = record {
   long = length-replicate {A = ℕ} mostPlaces 0;
@@ -93,7 +93,7 @@ few-more : (b : Bool) (v : ℕ) → v ≤ 8 → (b ≡ true → v < 8) → v + o
 few-more true v p q = omega (arith, q refl)
 few-more false v p q = omega arith
 
-module _ {n : ℕ} (small : n ≤ mostTeams) {home away counts : List ℕ} {g : ℕ} (old : Counted n home away counts g) where
+module _ {n : ℕ} (small : n ≤ mostTeams) {home away counts : List ℕ} {g : ℕ} (old : MeetingsCounted n home away counts g) where
   abbrev h : ℕ
   h = getD home g 0
 
@@ -108,7 +108,7 @@ module _ {n : ℕ} (small : n ≤ mostTeams) {home away counts : List ℕ} {g : 
   unfolding encounters meets
   one-more i j f o = sum-step (λ k. only (isBetween home away i j k) 1) g ∙ rw (meets-at h a i j (wider f) o)
 
-  pub counted-more : refused counts h a n ≡ false → Counted n home away (set counts (pairAt h a) (getD counts (pairAt h a) 0 + 1)) (g + 1)
+  pub counted-more : refused counts h a n ≡ false → MeetingsCounted n home away (set counts (pairAt h a) (getD counts (pairAt h a) 0 + 1)) (g + 1)
   unfolding refused
   counted-more e =
       let free = or-no (leb n h || leb n a || eqb h a) (leb 8 (getD counts (pairAt h a) 0)) e in
@@ -144,7 +144,7 @@ module _ {n : ℕ} (small : n ≤ mostTeams) {home away counts : List ℕ} {g : 
       bad true q e = refl
       bad false q e = lt-ltb 8 _ (ninth (teams-fit h a n q) (leb-true 8 _ e))
 
-pub counted-good : {n : ℕ} → n ≤ mostTeams → {home away counts : List ℕ} → Counted n home away counts (length home) → sentence4 (ofGames n home away) ≡ false
+pub counted-good : {n : ℕ} → n ≤ mostTeams → {home away counts : List ℕ} → MeetingsCounted n home away counts (length home) → sentence4 (ofGames n home away) ≡ false
 unfolding sentence4 badGame
 counted-good {n} small {home} {away} all =
     none-any (badGame (ofGames n home away)) (length home) (λ k l.

@@ -18,11 +18,11 @@ use Rattle.robinx.specs.declared.Constraint.{Constraint}
 use Rattle.robinx.proofs.Sums.{sum-step, any-step, any-some}
 use Rattle.robinx.proofs.Bounds.{entries-small}
 use Rattle.robinx.specs.Kinds.{formAt}
-use Rattle.rules.specs.Counted.{onesIn}
+use Rattle.rules.specs.CountedBits.{onesIn}
 use Rattle.reader.specs.Sizes.{Measured, outOfRange}
 use Rattle.season.specs.Examination.{Examination, refusedBy, further}
 use Rattle.season.specs.declared.Examined.{Examined}
-use Rattle.reader.proofs.Read.{teams-read, slots-read, constraints-read, InRange}
+use Rattle.reader.proofs.Read.{teams-read, slots-read, constraints-read, SizesInRange}
 use Rattle.rules.proofs.Members.{entries-counted}
 
 abbrev pub breach : Instance → ℕ → Bool
@@ -62,11 +62,11 @@ pub ones-small : (n P : ℕ) → n ≤ mostTeams → P ≤ mostSlots → (k : Co
 ones-small n P teams slots k h = omega (arith, entries-counted n P k h, entries-small n P teams slots k)
 
 -- what x says of the first c constraints
-pub record Passed (m : Instance) (z : Season) (c : ℕ) (x : Examined) : Type 0 where
+pub record PassedTests (m : Instance) (z : Season) (c : ℕ) (x : Examined) : Type 0 where
   pub kept : x .fault ≡ 0 → (x .sizes ≡ z) × Kept m c (x .entries)
   pub broken : (x .fault ≡ 0 → ⊥) → (x .fault ≡ 5) × (sentence5 m ≡ true)
 
-pub passed-none : (m : Instance) (z : Season) → Passed m z 0 (record { fault = 0; sizes = z; entries = 0 })
+pub passed-none : (m : Instance) (z : Season) → PassedTests m z 0 (record { fault = 0; sizes = z; entries = 0 })
 passed-none m z = record { kept = λ _. (refl, kept-none m); broken = λ f. absurd (f refl) }
 
 -- not both, and the second
@@ -74,10 +74,10 @@ nor-first : (a b : Bool) → b ≡ true → T (not (a && b)) → T (not a)
 nor-first true b e t = subst (λ (y : Bool). T (not (true && y))) e t
 nor-first false b e t = tt
 
-module _ (s : List ℕ) (z : Season) (measured : Measured s z) (range : InRange z) where
+module _ (s : List ℕ) (z : Season) (measured : Measured s z) (range : SizesInRange z) where
   -- one more constraint, by the answer of the rules
   passed-by : (c : ℕ) (x y : Examined) (k : Constraint) → c < z .constraints → (x .sizes ≡ z) × Kept (decode s) c (x .entries)
-      → k ≡ decode s .constraint c → y ≡ further x k → (b : Bool) → obeys (decode s .n) (decode s .P) (decode s .constraint c) ≡ b → Passed (decode s) z (c + 1) y
+      → k ≡ decode s .constraint c → y ≡ further x k → (b : Bool) → obeys (decode s .n) (decode s .P) (decode s .constraint c) ≡ b → PassedTests (decode s) z (c + 1) y
   passed-by c x y k below old ek ey true h =
       let rule : obeys (x .sizes .teams) (x .sizes .slots) k ≡ true = rw (old .0, ek, teams-read s (measured .sizes), slots-read s (measured .sizes)) h in
       let made : y ≡ record { fault = 0; sizes = x .sizes; entries = x .entries + onesIn (formAt (k .kind) .shape) k } = rw rule at ey in
@@ -88,15 +88,15 @@ module _ (s : List ℕ) (z : Season) (measured : Measured s z) (range : InRange 
       let made : y ≡ refusedBy 5 = rw rule at ey in
       rw made (record { kept = λ e. absurd (omega (arith, e)); broken = λ _. (refl, kept-bad (decode s) c (rw (← constraints-read s (measured .sizes)) below) h) })
 
-  pub passed-more : (c : ℕ) (x y : Examined) (k : Constraint) → c < z .constraints → x .fault ≡ 0 → Passed (decode s) z c x
-      → k ≡ decode s .constraint c → y ≡ further x k → Passed (decode s) z (c + 1) y
+  pub passed-more : (c : ℕ) (x y : Examined) (k : Constraint) → c < z .constraints → x .fault ≡ 0 → PassedTests (decode s) z c x
+      → k ≡ decode s .constraint c → y ≡ further x k → PassedTests (decode s) z (c + 1) y
   passed-more c x y k below none old ek ey = passed-by c x y k below (old .kept none) ek ey (obeys (decode s .n) (decode s .P) (decode s .constraint c)) refl
 
-  pub passed-small : (c : ℕ) (x : Examined) → c < z .constraints → x .fault ≡ 0 → Passed (decode s) z c x → (outOfRange (x .sizes) ≡ outOfRange z) × (x .entries + 496 < 2 ^ 64)
+  pub passed-small : (c : ℕ) (x : Examined) → c < z .constraints → x .fault ≡ 0 → PassedTests (decode s) z c x → (outOfRange (x .sizes) ≡ outOfRange z) × (x .entries + 496 < 2 ^ 64)
   passed-small c x below none old = (ap outOfRange (old .kept none .0), omega (arith, old .kept none .1 .small, range .constraints, below))
 
   -- the cursor is at the end, or x is a refusal
-  passed-end : (c : ℕ) (x : Examined) → c ≤ z .constraints → Passed (decode s) z c x → T (not (ltb c (z .constraints) && eqb (x .fault) 0))
+  passed-end : (c : ℕ) (x : Examined) → c ≤ z .constraints → PassedTests (decode s) z c x → T (not (ltb c (z .constraints) && eqb (x .fault) 0))
       → (b : Bool) → eqb (x .fault) 0 ≡ b → Examination (sentence 5 (sentence5 (decode s)) ∷ []) s x
   unfolding firstTrue
   passed-end c x most old over true h =
@@ -108,6 +108,6 @@ module _ (s : List ℕ) (z : Season) (measured : Measured s z) (range : InRange 
       let bad = old .broken (λ e. eqb-false (x .fault) 0 h e) in
       record { fault = rw (bad .1) (bad .0); sizes = λ e. absurd (omega (arith, e, bad .0)); entries = λ e. absurd (omega (arith, e, bad .0)) }
 
-  pub passed-all : (c : ℕ) (x : Examined) → c ≤ z .constraints → Passed (decode s) z c x → T (not (ltb c (z .constraints) && eqb (x .fault) 0))
+  pub passed-all : (c : ℕ) (x : Examined) → c ≤ z .constraints → PassedTests (decode s) z c x → T (not (ltb c (z .constraints) && eqb (x .fault) 0))
       → Examination (sentence 5 (sentence5 (decode s)) ∷ []) s x
   passed-all c x most old over = passed-end c x most old over (eqb (x .fault) 0) refl

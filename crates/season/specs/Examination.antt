@@ -9,7 +9,7 @@ use Rattle.robinx.specs.Kinds.{formAt}
 use Rattle.robinx.specs.Rules.{obeys}
 use Rattle.robinx.specs.declared.Constraint.{Constraint}
 use Rattle.robinx.specs.Refusals.{Sentence, firstTrue}
-use Rattle.rules.specs.Counted.{onesIn}
+use Rattle.rules.specs.CountedBits.{onesIn}
 use Rattle.reader.specs.Sizes.{sizesOf}
 use Rattle.season.specs.declared.Examined.{Examined}
 

@@ -1,1 +1,1 @@
-pub mod Meetings
+pub mod PairMeetings

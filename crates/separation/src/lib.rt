@@ -7,8 +7,8 @@ ghost use Rattle.robinx.specs.Groups.{has};
 ghost use Rattle.robinx.specs.Deviations.{devSE1};
 ghost use Rattle.robinx.proofs.Filled.{FilledRows};
 ghost use Rattle.tables.specs.Tables.{tables, xOf};
-ghost use Rattle.opponents.specs.Figures.{Ready};
-ghost use Rattle.separation.specs.Pairs.{closeness};
+ghost use Rattle.opponents.specs.Fillable.{Fillable};
+ghost use Rattle.separation.specs.Closeness.{closeness};
 use groups::Members;
 use masks::closeness;
 use masks::front;
@@ -31,7 +31,7 @@ fn pair_closeness(meets: &[Slots; Season::PLACES], w: u8, p: usize, i: usize, j:
     )
 }
 
-// The pairs of i with higher members, from place e on; the place behind them.
+// The figures of the pairs of which i is the lower team, from place at on; the place after them.
 fn fill_row(
     meets: &[Slots; Season::PLACES],
     group: u32,
@@ -39,20 +39,20 @@ fn fill_row(
     n: usize,
     p: usize,
     i: usize,
-    e: usize,
+    at: usize,
     out: &mut [u32],
 ) -> usize
-    requires { ⌜ (n ≤ mostTeams) × (p ≤ mostSlots) × (group < 2 ^ n) × (i < n) × (has group i ≡ true) × FilledRows n group (closeness (xOf (now meets)) w p) i e (now out) ⌝ }
+    requires { ⌜ (n ≤ mostTeams) × (p ≤ mostSlots) × (group < 2 ^ n) × (i < n) × (has group i ≡ true) × FilledRows n group (closeness (xOf (now meets)) w p) i at (now out) ⌝ }
     ensures { λ r. ⌜ FilledRows n group (closeness (xOf (now (meets .entry))) w p) (i + 1) r (now (out .exit)) ⌝ }
 {
-    let mut at = e;
+    let mut next = at;
     let mut m = Members::above(group, i);
     while m.rest != 0 {
         m = m.next();
-        out[at] = pair_closeness(meets, w, p, i, m.team);
-        at += 1;
+        out[next] = pair_closeness(meets, w, p, i, m.team);
+        next += 1;
     }
-    at
+    next
 }
 
 // The deviations of SE1.
@@ -65,7 +65,7 @@ pub fn fill_separation(
     meets: &[Slots; Season::PLACES],
     out: &mut [u32],
 )
-    requires { ⌜ Ready n p c (tables (now home) (now away) (now meets)) (now out) × (c .kind ≡ 51) ⌝ }
+    requires { ⌜ Fillable n p c (tables (now home) (now away) (now meets)) (now out) × (c .kind ≡ 51) ⌝ }
     ensures { λ _. ⌜ now (out .exit) ≡ devSE1 n p c (xOf (now (meets .entry))) ⌝ }
 {
     let mut at = 0;

@@ -18,7 +18,7 @@ use Rattle.timetable.proofs.Points.{joined-more, without-less, set-gain
 use Rattle.timetable.proofs.Tied.{MeetsMore, shows-more, shows-less}
 use Rattle.timetable.proofs.Sheet.{meetings-more}
 use Rattle.timetable.proofs.Clash.{or-cases, isTeam, is-host, is-guest, team-cases, Plays, Clashing, is-clash, clash-is, plays-kept, clashing-kept}
-use Rattle.timetable.proofs.Games.{game-meets, game-home, game-away, game-busy, busy-game}
+use Rattle.timetable.proofs.PlacedGames.{game-meets, game-home, game-away, game-busy, busy-game}
 
 pub in-range-set : {n : ℕ} {homes aways sheet : List ℕ} (g b : ℕ)
     → b ≤ mostSlots

@@ -2,9 +2,9 @@ pub mod Points
 pub mod Tied
 pub mod Sheet
 pub mod Clash
-pub mod Games
+pub mod PlacedGames
 pub mod Laws
-pub mod Steps
+pub mod TableSteps
 pub mod FirstGames
-pub mod Turns
+pub mod BuildTurns
 pub mod Fewer

@@ -6,7 +6,7 @@ ghost use lib.Dec.{eqb};
 ghost use mir.Syntax.{w64};
 ghost use mir.Val.{toZ};
 ghost use Rattle.robinx.specs.Sums.{only};
-ghost use Rattle.totals.specs.Running.{movedBy};
+ghost use Rattle.totals.specs.RunningTotals.{movedBy};
 // The two running totals: infeasibility and objective.
 pub struct Totals {
     pub hard: u64,

@@ -20,26 +20,26 @@ lent c = let a = c .before .before .before .before .before .args in buffers (now
 examine-requires : tie.Need-examine-requires
 examine-requires c κs = search needs
 
-refused-by-requires : tie.Need-refused-by-requires
-refused-by-requires c κs = search needs
+not-admitted-requires : tie.Need-not-admitted-requires
+not-admitted-requires c κs = search needs
 
 returns : tie.Need-returns
 returns c =
     let e = c .before .before .before in
-    rw (c .refused-by .ensures) (season-refused (season e) (lent e) (e .examine .ensures) (c .before .if1 .taken))
+    rw (c .not-admitted .ensures) (season-refused (season e) (lent e) (e .examine .ensures) (c .before .if1 .taken))
 
 lengths-bad-requires : tie.Need-lengths-bad-requires
 lengths-bad-requires c κs =
     let e = c .before .before .before in
     few-constraints (season e) (lent e) (e .examine .ensures) (c .before .if1 .left)
 
-refused-by-requires-2 : tie.Need-refused-by-requires-2
-refused-by-requires-2 c κs = search needs
+not-admitted-requires-2 : tie.Need-not-admitted-requires-2
+not-admitted-requires-2 c κs = search needs
 
 returns-2 : tie.Need-returns-2
 returns-2 c =
     let e = c .before .before .before .before .before .before in
-    rw (c .refused-by2 .ensures)
+    rw (c .not-admitted2 .ensures)
     (lengths-refused (season e) (lent e) (e .examine .ensures) (c .before .before .before .before .if1 .left)
     (sym (c .before .before .lengths-bad .ensures) ∙ c .before .if2 .taken))
 
@@ -60,14 +60,14 @@ returns-3 c =
     let e = f .before .before .before .before .before in
     admitted (season e) (lent e) (e .examine .ensures) (f .before .before .before .if1 .left) (fit f) (c .before .lay-tables .ensures) (c .if3 .taken)
 
-refused-by-requires-3 : tie.Need-refused-by-requires-3
-refused-by-requires-3 c κs = search needs
+not-admitted-requires-3 : tie.Need-not-admitted-requires-3
+not-admitted-requires-3 c κs = search needs
 
 returns-4 : tie.Need-returns-4
 returns-4 c =
     let f = c .before .before .before .before .before .before in
     let e = f .before .before .before .before .before in
-    rw (c .refused-by3 .ensures)
+    rw (c .not-admitted3 .ensures)
     (sheet-refused (season e) (lent e) (e .examine .ensures) (f .before .before .before .if1 .left) (fit f) (c .before .before .lay-tables .ensures) (c .before .if3 .left))
 
 pub admit-spec : {M : Type 1} → statement M
@@ -75,12 +75,12 @@ admit-spec =
     tie.close
     (tie.spec
     examine-requires
-    refused-by-requires
+    not-admitted-requires
     returns
     lengths-bad-requires
-    refused-by-requires-2
+    not-admitted-requires-2
     returns-2
     lay-tables-requires
     returns-3
-    refused-by-requires-3
+    not-admitted-requires-3
     returns-4)

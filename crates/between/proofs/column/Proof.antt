@@ -1,4 +1,4 @@
--- `figures::across::column` meets its contract. Assumes nothing.
+-- `between::column` meets its contract. Assumes nothing.
 use denote.Ref.{now}
 use mathlib.Core.Path.{_≡_, refl, ap, _∙_}
 use mathlib.Core.Bool.{Bool}
@@ -8,7 +8,7 @@ use lib.ListN.{getD}
 use Rattle.robinx.specs.Sums.{sumTo, only}
 use Rattle.robinx.specs.Groups.{bit}
 use Rattle.robinx.proofs.Sums.{sum-step, only-le}
-use Rattle.robinx.proofs.Sizes.{only-bit}
+use Rattle.robinx.proofs.GroupSizes.{only-bit}
 use borrow.Author.Needs.{needs}
 use Rattle.between.proofs.column.Statement.{statement}
 use Rattle.between.proofs.column.Tie as tie

@@ -1,4 +1,4 @@
--- `figures::across::fill_ca4` meets its contract. Assumes nothing.
+-- `between::fill_ca4` meets its contract. Assumes nothing.
 use denote.Ref.{now}
 use mathlib.Core.Path.{_≡_, refl, sym, ap, _∙_}
 use mathlib.Core.Bool.{Bool, cond}
@@ -11,7 +11,7 @@ use Rattle.robinx.specs.Timetable.{firstModes}
 use Rattle.robinx.specs.Deviations.{outside, devCA4}
 use Rattle.robinx.proofs.Ext.{each-ext}
 use Rattle.tables.specs.Tables.{xOf}
-use Rattle.opponents.proofs.Ready.{limits, given-t1, places-of}
+use Rattle.opponents.proofs.Fillable.{limits, given-t1, places-of}
 use Rattle.between.proofs.Between.{one-figure, columns-between}
 use borrow.Author.Needs.{needs}
 use Rattle.between.proofs.fill_ca4.Statement.{statement}

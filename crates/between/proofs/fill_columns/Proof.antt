@@ -1,4 +1,4 @@
--- `figures::across::fill_columns` meets its contract. Assumes nothing.
+-- `between::fill_columns` meets its contract. Assumes nothing.
 use mathlib.Core.Path.{_≡_, sym, ap, _∙_}
 use mathlib.Core.List.{List}
 use mathlib.Core.Logic.{⊎-elim}

@@ -1,4 +1,4 @@
--- `figures::across::fill_ga1` meets its contract. Assumes nothing.
+-- `between::fill_ga1` meets its contract. Assumes nothing.
 use denote.Ref.{now}
 use mathlib.Core.Path.{_≡_, ap}
 use native.Mathlib.Omega.{arith}
@@ -7,7 +7,7 @@ use Rattle.robinx.specs.Kinds.{kindOf, formOf}
 use Rattle.robinx.specs.Timetable.{homeSide}
 use Rattle.robinx.specs.Deviations.{devGA1}
 use Rattle.tables.specs.Tables.{xOf}
-use Rattle.opponents.proofs.Ready.{limits, given-t1, places-of}
+use Rattle.opponents.proofs.Fillable.{limits, given-t1, places-of}
 use Rattle.between.proofs.Between.{one-figure}
 use borrow.Author.Needs.{needs}
 use Rattle.between.proofs.fill_ga1.Statement.{statement}

@@ -1,4 +1,4 @@
--- `figures::across::games_in` meets its contract. Assumes nothing.
+-- `between::games_in` meets its contract. Assumes nothing.
 use denote.Ref.{now}
 use mathlib.Core.Path.{_≡_, refl, ap, _∙_}
 use Prim.Native.Nat.{ℕ, _+_, _-_, _*_, _≤_}

@@ -1,4 +1,4 @@
--- `figures::across::guests` meets its contract. Assumes nothing.
+-- `between::guests` meets its contract. Assumes nothing.
 use mathlib.Core.Path.{ap₂, _∙_}
 use mathlib.Core.Bool.{Bool, _&&_}
 use lib.Bits.{bitOr}

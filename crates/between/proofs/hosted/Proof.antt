@@ -1,4 +1,4 @@
--- `figures::across::hosted` meets its contract. Assumes nothing.
+-- `between::hosted` meets its contract. Assumes nothing.
 use denote.Ref.{now}
 use mathlib.Core.Path.{ap, _∙_}
 use Prim.Native.Nat.{ℕ}

@@ -1,4 +1,4 @@
--- `figures::across::lay_hosted` meets its contract. Assumes nothing.
+-- `between::lay_hosted` meets its contract. Assumes nothing.
 use mathlib.Core.Path.{_≡_}
 use Prim.Native.Nat.{_-_, _≤_}
 use native.Mathlib.Omega.{arith}

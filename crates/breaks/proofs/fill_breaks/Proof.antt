@@ -10,17 +10,17 @@ use Rattle.robinx.specs.Timetable.{firstModes}
 use Rattle.robinx.specs.Kinds.{kindOf, formOf, formAt}
 use Rattle.robinx.specs.Deviations.{breaks, offTarget, devBR1, entries}
 use Rattle.tables.specs.Tables.{xOf}
-use Rattle.opponents.proofs.Ready.{limits}
-use Rattle.groups.proofs.Walk.{EachPassed, each-start, each-place, each-few, each-turn, each-end}
+use Rattle.opponents.proofs.Fillable.{limits}
+use Rattle.groups.proofs.MemberWalk.{EachPassed, each-start, each-place, each-few, each-turn, each-end}
 use Rattle.breaks.proofs.fill_breaks.Statement.{statement}
 use Rattle.breaks.proofs.fill_breaks.Tie as tie
 
 abbrev Inv-loop : tie.InvT-loop
-Inv-loop c n p home away meets out₀ e₀ m₀ out e m =
-    EachPassed n (c .t1) (λ t. offTarget (firstModes (c .mode)) (c .kmax) (breaks n p c (xOf meets) t)) m e out
+Inv-loop c n p home away meets out₀ at₀ m₀ out at m =
+    EachPassed n (c .t1) (λ t. offTarget (firstModes (c .mode)) (c .kmax) (breaks n p c (xOf meets) t)) m at out
 
 abbrev μ-loop : tie.MeasureT-loop
-μ-loop c n p home away meets out₀ e₀ m₀ out e m = n - m .at
+μ-loop c n p home away meets out₀ at₀ m₀ out at m = n - m .at
 
 places : (c : tie.Start Inv-loop μ-loop) → length (now (c .args .out)) ≡ size (c .args .n) (c .args .c .t1)
 unfolding entries kindOf formOf formAt
@@ -43,7 +43,7 @@ team-breaks-requires c κs =
 off-target-requires : tie.Need-off-target-requires Inv-loop μ-loop
 off-target-requires c κs = search needs
 
-few : (c : tie.After-off-target Inv-loop μ-loop) → c .before .before .before .before .before .loop .e < mostTeams
+few : (c : tie.After-off-target Inv-loop μ-loop) → c .before .before .before .before .before .loop .at < mostTeams
 few c = each-few (c .before .before .before .before .before .loop .inv) (c .before .before .next .ensures)
 
 mul-out : tie.Need-mul-out Inv-loop μ-loop
@@ -52,8 +52,8 @@ mul-out c = let r = few c in search needs
 slice-write-out : tie.Need-slice-write-out Inv-loop μ-loop
 slice-write-out c = each-place (c .before .before .before .before .before .loop .inv) (c .before .before .next .ensures)
 
-add-e : tie.Need-add-e Inv-loop μ-loop
-add-e c = let r = few c in search needs
+add-at : tie.Need-add-at Inv-loop μ-loop
+add-at c = let r = few c in search needs
 
 loop-less : tie.Need-loop-less Inv-loop μ-loop
 loop-less c = let x = c .before .before .next .ensures _ _ (c .before .before .before .before .before .loop .inv .ahead) in search needs
@@ -83,7 +83,7 @@ fill-breaks-spec =
     off-target-requires
     mul-out
     slice-write-out
-    add-e
+    add-at
     loop-less
     loop-again
     same-length

@@ -4,7 +4,7 @@ use Rattle.robinx.specs.Season.{mostSlots}
 use Rattle.robinx.specs.Deviations.{breaks}
 use Rattle.robinx.proofs.Limits.{obeyed}
 use Rattle.tables.specs.Tables.{xOf}
-use Rattle.groups.proofs.Walk.{SumPassed, sum-start, sum-turn, sum-end}
+use Rattle.groups.proofs.MemberWalk.{SumPassed, sum-start, sum-turn, sum-end}
 use borrow.Author.Needs.{needs}
 use Rattle.breaks.proofs.group_breaks.Statement.{statement}
 use Rattle.breaks.proofs.group_breaks.Tie as tie

@@ -9,18 +9,18 @@ use Rattle.robinx.specs.Groups.{size}
 use Rattle.robinx.specs.Deviations.{outside}
 use Rattle.tables.specs.Tables.{xOf}
 use Rattle.counts.specs.TeamCounts.{counted, offCount}
-use Rattle.opponents.proofs.Ready.{limits, given-t2}
+use Rattle.opponents.proofs.Fillable.{limits, given-t2}
 use Rattle.counts.proofs.TeamFigures.{count-games, count-figures, a-place-a-team}
-use Rattle.groups.proofs.Walk.{EachPassed, each-start, each-place, each-few, each-turn, each-end}
+use Rattle.groups.proofs.MemberWalk.{EachPassed, each-start, each-place, each-few, each-turn, each-end}
 use borrow.Author.Needs.{needs}
 use Rattle.counts.proofs.fill_counts.Statement.{statement}
 use Rattle.counts.proofs.fill_counts.Tie as tie
 
 abbrev Inv-loop : tie.InvT-loop
-Inv-loop c n p home away meets out₀ e₀ m₀ out e m = EachPassed n (c .t1) (λ t. offCount p c (counted n c (xOf meets) t)) m e out
+Inv-loop c n p home away meets out₀ at₀ m₀ out at m = EachPassed n (c .t1) (λ t. offCount p c (counted n c (xOf meets) t)) m at out
 
 abbrev μ-loop : tie.MeasureT-loop
-μ-loop c n p home away meets out₀ e₀ m₀ out e m = n - m .at
+μ-loop c n p home away meets out₀ at₀ m₀ out at m = n - m .at
 
 places : (c : tie.Start Inv-loop μ-loop) → length (now (c .args .out)) ≡ size (c .args .n) (c .args .c .t1)
 places c =
@@ -51,7 +51,7 @@ count-in-requires c κs = search needs
 outside-requires : tie.Need-outside-requires Inv-loop μ-loop
 outside-requires c κs = search needs
 
-few : (c : tie.After-outside Inv-loop μ-loop) → c .before .before .before .before .before .before .loop .e < mostTeams
+few : (c : tie.After-outside Inv-loop μ-loop) → c .before .before .before .before .before .before .loop .at < mostTeams
 few c = each-few (c .before .before .before .before .before .before .loop .inv) (c .before .before .before .next .ensures)
 
 mul-out : tie.Need-mul-out Inv-loop μ-loop
@@ -60,8 +60,8 @@ mul-out c = let r = few c in search needs
 slice-write-out : tie.Need-slice-write-out Inv-loop μ-loop
 slice-write-out c = each-place (c .before .before .before .before .before .before .loop .inv) (c .before .before .before .next .ensures)
 
-add-e : tie.Need-add-e Inv-loop μ-loop
-add-e c = let r = few c in search needs
+add-at : tie.Need-add-at Inv-loop μ-loop
+add-at c = let r = few c in search needs
 
 loop-less : tie.Need-loop-less Inv-loop μ-loop
 loop-less c = let x = c .before .before .before .next .ensures _ _ (c .before .before .before .before .before .before .loop .inv .ahead) in search needs
@@ -99,7 +99,7 @@ fill-counts-spec =
     outside-requires
     mul-out
     slice-write-out
-    add-e
+    add-at
     loop-less
     loop-again
     same-length

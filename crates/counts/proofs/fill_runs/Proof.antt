@@ -8,18 +8,18 @@ use Rattle.robinx.specs.Season.{mostTeams}
 use Rattle.robinx.specs.Groups.{size}
 use Rattle.tables.specs.Tables.{xOf}
 use Rattle.counts.specs.TeamCounts.{FromZero, counted, offRuns}
-use Rattle.opponents.proofs.Ready.{limits, given-t2}
+use Rattle.opponents.proofs.Fillable.{limits, given-t2}
 use Rattle.counts.proofs.TeamFigures.{run-games, run-figures, a-place-a-team}
-use Rattle.groups.proofs.Walk.{EachPassed, each-start, each-place, each-few, each-turn, each-end}
+use Rattle.groups.proofs.MemberWalk.{EachPassed, each-start, each-place, each-few, each-turn, each-end}
 use borrow.Author.Needs.{needs}
 use Rattle.counts.proofs.fill_runs.Statement.{statement}
 use Rattle.counts.proofs.fill_runs.Tie as tie
 
 abbrev Inv-loop : tie.InvT-loop
-Inv-loop c n p home away meets out₀ rows₀ e₀ m₀ out rows e m = FromZero rows × EachPassed n (c .t1) (λ t. offRuns p c (counted n c (xOf meets) t)) m e out
+Inv-loop c n p home away meets out₀ rows₀ at₀ m₀ out rows at m = FromZero rows × EachPassed n (c .t1) (λ t. offRuns p c (counted n c (xOf meets) t)) m at out
 
 abbrev μ-loop : tie.MeasureT-loop
-μ-loop c n p home away meets out₀ rows₀ e₀ m₀ out rows e m = n - m .at
+μ-loop c n p home away meets out₀ rows₀ at₀ m₀ out rows at m = n - m .at
 
 places : (c : tie.Start Inv-loop μ-loop) → length (now (c .args .out)) ≡ size (c .args .n) (c .args .c .t1)
 places c =
@@ -47,7 +47,7 @@ counted-requires c κs =
 runs-of-requires : tie.Need-runs-of-requires Inv-loop μ-loop
 runs-of-requires c κs = let l = c .before .before .before .before .before in (l .before .before .before .pre .0 .slots, l .loop .inv .0)
 
-few : (c : tie.After-runs-of Inv-loop μ-loop) → c .before .before .before .before .before .before .loop .e < mostTeams
+few : (c : tie.After-runs-of Inv-loop μ-loop) → c .before .before .before .before .before .before .loop .at < mostTeams
 few c = each-few (c .before .before .before .before .before .before .loop .inv .1) (c .before .before .before .next .ensures)
 
 mul-out : tie.Need-mul-out Inv-loop μ-loop
@@ -56,8 +56,8 @@ mul-out c = let r = few c in search needs
 slice-write-out : tie.Need-slice-write-out Inv-loop μ-loop
 slice-write-out c = each-place (c .before .before .before .before .before .before .loop .inv .1) (c .before .before .before .next .ensures)
 
-add-e : tie.Need-add-e Inv-loop μ-loop
-add-e c = let r = few c in search needs
+add-at : tie.Need-add-at Inv-loop μ-loop
+add-at c = let r = few c in search needs
 
 loop-less : tie.Need-loop-less Inv-loop μ-loop
 loop-less c = let x = c .before .before .before .next .ensures _ _ (c .before .before .before .before .before .before .loop .inv .1 .ahead) in search needs
@@ -94,7 +94,7 @@ fill-runs-spec =
     runs-of-requires
     mul-out
     slice-write-out
-    add-e
+    add-at
     loop-less
     loop-again
     same-length

@@ -1,8 +1,8 @@
--- `figures::balance::fill_fa1` meets its contract. Assumes nothing.
+-- `fairness::fill_fa1` meets its contract. Assumes nothing.
 use mathlib.Core.Path.{refl, ap}
 use Rattle.robinx.specs.Kinds.{kindOf, formOf}
-use Rattle.opponents.proofs.Ready.{given-t1, places-of}
-use Rattle.fairness.proofs.Running.{teams-balance}
+use Rattle.opponents.proofs.Fillable.{given-t1, places-of}
+use Rattle.fairness.proofs.RunningCounts.{teams-balance}
 use borrow.Author.Needs.{needs}
 use Rattle.fairness.proofs.fill_fa1.Statement.{statement}
 use Rattle.fairness.proofs.fill_fa1.Tie as tie

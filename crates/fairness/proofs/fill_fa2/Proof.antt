@@ -1,8 +1,8 @@
--- `figures::balance::fill_fa2` meets its contract. Assumes nothing.
+-- `fairness::fill_fa2` meets its contract. Assumes nothing.
 use mathlib.Core.Path.{refl, ap}
 use Rattle.robinx.specs.Kinds.{kindOf, formOf}
-use Rattle.opponents.proofs.Ready.{limits, given-t1, places-of}
-use Rattle.fairness.proofs.Running.{pairs-balance}
+use Rattle.opponents.proofs.Fillable.{limits, given-t1, places-of}
+use Rattle.fairness.proofs.RunningCounts.{pairs-balance}
 use borrow.Author.Needs.{needs}
 use Rattle.fairness.proofs.fill_fa2.Statement.{statement}
 use Rattle.fairness.proofs.fill_fa2.Tie as tie

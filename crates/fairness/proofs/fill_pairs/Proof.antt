@@ -1,8 +1,8 @@
--- `figures::balance::fill_pairs` meets its contract. Before each turn the pairs whose lower member is passed are in. Assumes nothing.
+-- `fairness::fill_pairs` meets its contract. Before each turn the pairs whose lower member is passed are in. Assumes nothing.
 use mathlib.Core.Path.{sym, _∙_}
 use Prim.Native.Nat.{_-_}
-use Rattle.fairness.specs.Running.{rowsApart}
-use Rattle.groups.proofs.Walk.{RowsPassed, rows-start, rows-place, rows-turn, rows-end}
+use Rattle.fairness.specs.RunningCounts.{rowsApart}
+use Rattle.groups.proofs.MemberWalk.{RowsPassed, rows-start, rows-place, rows-turn, rows-end}
 use borrow.Author.Needs.{needs}
 use Rattle.fairness.proofs.fill_pairs.Statement.{statement}
 use Rattle.fairness.proofs.fill_pairs.Tie as tie

@@ -1,9 +1,9 @@
--- `figures::balance::fill_row` meets its contract. Before each turn the pairs with the members passed are in. Assumes nothing.
+-- `fairness::fill_row` meets its contract. Before each turn the pairs with the members passed are in. Assumes nothing.
 use mathlib.Core.Path.{sym, _∙_}
 use Prim.Native.Nat.{_-_, _<_}
 use lib.ListN.{length}
-use Rattle.fairness.specs.Running.{rowsApart}
-use Rattle.groups.proofs.Walk.{RowPassed, row-start, row-place, row-turn, row-end}
+use Rattle.fairness.specs.RunningCounts.{rowsApart}
+use Rattle.groups.proofs.MemberWalk.{RowPassed, row-start, row-place, row-turn, row-end}
 use borrow.Author.Needs.{needs}
 use Rattle.fairness.proofs.fill_row.Statement.{statement}
 use Rattle.fairness.proofs.fill_row.Tie as tie

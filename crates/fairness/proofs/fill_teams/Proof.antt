@@ -1,12 +1,12 @@
--- `figures::balance::fill_teams` meets its contract: before each turn the figures of the teams passed are in. Assumes nothing.
+-- `fairness::fill_teams` meets its contract: before each turn the figures of the teams passed are in. Assumes nothing.
 use mathlib.Core.Path.{_≡_, sym, _∙_}
 use Prim.Native.Nat.{_-_, _<_}
 use lib.ListN.{length}
 use Rattle.robinx.specs.Season.{mostTeams}
 use Rattle.tables.specs.Tables.{xOf}
 use Rattle.rows.specs.Rows.{places}
-use Rattle.fairness.specs.Running.{sidesApart}
-use Rattle.groups.proofs.Walk.{EachPassed, each-start, each-place, each-few, each-turn, each-end}
+use Rattle.fairness.specs.RunningCounts.{sidesApart}
+use Rattle.groups.proofs.MemberWalk.{EachPassed, each-start, each-place, each-few, each-turn, each-end}
 use borrow.Author.Needs.{needs}
 use Rattle.fairness.proofs.fill_teams.Statement.{statement}
 use Rattle.fairness.proofs.fill_teams.Tie as tie

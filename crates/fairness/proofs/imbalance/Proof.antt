@@ -1,10 +1,10 @@
--- `figures::balance::imbalance` meets its contract. Assumes nothing.
+-- `fairness::imbalance` meets its contract. Assumes nothing.
 use denote.Ref.{now}
 use mathlib.Core.Path.{_∙_}
 use Rattle.robinx.specs.Timetable.{homeSide, awaySide}
 use Rattle.tables.specs.Tables.{xOf}
-use Rattle.fairness.specs.Running.{running}
-use Rattle.fairness.proofs.Running.{two-rows}
+use Rattle.fairness.specs.RunningCounts.{running}
+use Rattle.fairness.proofs.RunningCounts.{two-rows}
 use borrow.Author.Needs.{needs}
 use Rattle.fairness.proofs.imbalance.Statement.{statement}
 use Rattle.fairness.proofs.imbalance.Tie as tie

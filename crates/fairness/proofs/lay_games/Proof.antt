@@ -1,11 +1,11 @@
--- `figures::balance::lay_games` meets its contract. Assumes nothing.
+-- `fairness::lay_games` meets its contract. Assumes nothing.
 use denote.Ref.{now}
 use mathlib.Core.Path.{_∙_}
 use Prim.Native.Nat.{_*_}
 use Rattle.robinx.specs.Season.{mostSlots}
 use Rattle.tables.specs.Tables.{xOf}
 use Rattle.rows.proofs.Rows.{laidAt-ext}
-use Rattle.fairness.proofs.Running.{running-of}
+use Rattle.fairness.proofs.RunningCounts.{running-of}
 use borrow.Author.Needs.{needs}
 use Rattle.fairness.proofs.lay_games.Statement.{statement}
 use Rattle.fairness.proofs.lay_games.Tie as tie

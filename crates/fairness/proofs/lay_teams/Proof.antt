@@ -1,7 +1,7 @@
--- `figures::balance::lay_teams` meets its contract: before each turn the rows of the teams passed are laid. Assumes nothing.
+-- `fairness::lay_teams` meets its contract: before each turn the rows of the teams passed are laid. Assumes nothing.
 use Prim.Native.Nat.{_-_}
 use Rattle.tables.specs.Tables.{xOf}
-use Rattle.fairness.proofs.Running.{CountedPassed, counted-start, counted-turn, counted-end}
+use Rattle.fairness.proofs.RunningCounts.{CountedPassed, counted-start, counted-turn, counted-end}
 use borrow.Author.Needs.{needs}
 use Rattle.fairness.proofs.lay_teams.Statement.{statement}
 use Rattle.fairness.proofs.lay_teams.Tie as tie

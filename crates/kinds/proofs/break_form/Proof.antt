@@ -2,7 +2,7 @@
 use native.Mathlib.Omega.{arith}
 use mathlib.Core.Path.{_∙_}
 use Rattle.robinx.specs.Kinds.{kindOf, formOf, formAt}
-use Rattle.kinds.proofs.Rows.{form-at, form-of-none}
+use Rattle.kinds.proofs.ByNumber.{form-at, form-of-none}
 use borrow.Author.Needs.{needs}
 use Rattle.kinds.proofs.break_form.Statement.{statement}
 use Rattle.kinds.proofs.break_form.Tie as tie

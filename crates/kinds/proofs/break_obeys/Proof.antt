@@ -1,7 +1,7 @@
 -- The rules of break constraints.
 use native.Mathlib.Omega.{arith}
 use Rattle.robinx.specs.Kinds.{kindOf, asksOf, asksAt}
-use Rattle.kinds.proofs.Rows.{asked-at, asked-none}
+use Rattle.kinds.proofs.ByNumber.{asked-at, asked-none}
 use borrow.Author.Needs.{needs}
 use Rattle.kinds.proofs.break_obeys.Statement.{statement}
 use Rattle.kinds.proofs.break_obeys.Tie as tie

@@ -1,6 +1,6 @@
 -- The number of deviations by the shape of the row.
 use borrow.Author.Tests.{le-leb, lt-leb}
-use Rattle.rules.specs.Counted.{onesIn}
+use Rattle.rules.specs.CountedBits.{onesIn}
 use borrow.Author.Needs.{needs}
 use Rattle.kinds.proofs.entries_of.Statement.{statement}
 use Rattle.kinds.proofs.entries_of.Tie as tie

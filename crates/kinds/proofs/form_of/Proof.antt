@@ -2,7 +2,7 @@
 use native.Mathlib.Omega.{arith}
 use mathlib.Core.Path.{_∙_}
 use mathlib.Core.Logic.{⊎-elim}
-use Rattle.kinds.proofs.Rows.{form-of-none}
+use Rattle.kinds.proofs.ByNumber.{form-of-none}
 use borrow.Author.Needs.{needs}
 use Rattle.kinds.proofs.form_of.Statement.{statement}
 use Rattle.kinds.proofs.form_of.Tie as tie

@@ -1,6 +1,6 @@
 -- The classes of kinds, a ten each.
 use native.Mathlib.Omega.{arith}
-use Rattle.kinds.proofs.Rows.{asked-none}
+use Rattle.kinds.proofs.ByNumber.{asked-none}
 use borrow.Author.Needs.{needs}
 use Rattle.kinds.proofs.obeys.Statement.{statement}
 use Rattle.kinds.proofs.obeys.Tie as tie

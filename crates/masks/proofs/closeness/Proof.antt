@@ -8,7 +8,7 @@ use borrow.Author.Needs.{needs}
 use lib.Count.{trailingZeros}
 use Rattle.robinx.specs.Sums.{sumTo}
 use Rattle.robinx.proofs.SetBits.{turn, first-turn}
-use Rattle.masks.proofs.Walk.{walked, Summed, summed-first, summed-next, summed-all}
+use Rattle.masks.proofs.GapWalk.{walked, Summed, summed-first, summed-next, summed-all}
 use Rattle.masks.proofs.closeness.Statement.{statement}
 use Rattle.masks.proofs.closeness.Tie as tie
 

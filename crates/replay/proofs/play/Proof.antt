@@ -6,16 +6,16 @@ use native.Mathlib.Omega.{arith}
 use lib.ListN.{length, drop}
 use borrow.Author.Needs.{needs}
 use Rattle.robinx.specs.Calls.{Buffers, buffers}
-use Rattle.replay.specs.Play.{callsOf, Plays}
+use Rattle.replay.specs.Play.{callsOf, Replays}
 use Rattle.replay.proofs.Lists.{calls-next, calls-end}
-use Rattle.replay.proofs.Steps.{plays-open, Made, none-made, one-made, all-made}
+use Rattle.replay.proofs.CallSteps.{plays-open, Made, none-made, one-made, all-made}
 use Rattle.replay.proofs.play.Statement.{statement}
 use Rattle.replay.proofs.play.Tie as tie
 
 abbrev Inv-loop : tie.InvT-loop
 Inv-loop season sheet₀ ledger₀ tally₀ calls played₀ i₀ sheet ledger tally played i =
     (i ≤ length calls) × (length sheet ≡ length sheet₀) × (length ledger ≡ length ledger₀) × (length tally ≡ length tally₀)
-    × ((b : Buffers) → Plays season b [] played₀ (buffers sheet₀ ledger₀ tally₀)
+    × ((b : Buffers) → Replays season b [] played₀ (buffers sheet₀ ledger₀ tally₀)
     → Made season b (callsOf calls) (callsOf (drop i calls)) played (buffers sheet ledger tally))
 
 abbrev μ-loop : tie.MeasureT-loop

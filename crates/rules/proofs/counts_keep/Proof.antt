@@ -1,5 +1,5 @@
 -- The tests of kmin, kmax and w.
-use Rattle.rules.specs.Counted.{countsKeep}
+use Rattle.rules.specs.CountedBits.{countsKeep}
 use borrow.Author.Needs.{needs}
 use Rattle.rules.proofs.counts_keep.Statement.{statement}
 use Rattle.rules.proofs.counts_keep.Tie as tie

@@ -1,5 +1,5 @@
 -- The tests of T1, T2 and S.
-use Rattle.rules.specs.Counted.{groupsKeep}
+use Rattle.rules.specs.CountedBits.{groupsKeep}
 use borrow.Author.Needs.{needs}
 use Rattle.rules.proofs.groups_keep.Statement.{statement}
 use Rattle.rules.proofs.groups_keep.Tie as tie

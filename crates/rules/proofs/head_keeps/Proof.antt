@@ -1,5 +1,5 @@
 -- The tests of mode, hard, function and weight.
-use Rattle.rules.specs.Counted.{headKeeps}
+use Rattle.rules.specs.CountedBits.{headKeeps}
 use borrow.Author.Needs.{needs}
 use Rattle.rules.proofs.head_keeps.Statement.{statement}
 use Rattle.rules.proofs.head_keeps.Tie as tie

@@ -1,5 +1,5 @@
 -- By the number of set bits.
-use Rattle.rules.specs.Counted.{severalKeep}
+use Rattle.rules.specs.CountedBits.{severalKeep}
 use borrow.Author.Needs.{needs}
 use Rattle.rules.proofs.several_keep.Statement.{statement}
 use Rattle.rules.proofs.several_keep.Tie as tie

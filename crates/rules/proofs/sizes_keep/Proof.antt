@@ -1,5 +1,5 @@
 -- By the number of set bits.
-use Rattle.rules.specs.Counted.{sizesKeep}
+use Rattle.rules.specs.CountedBits.{sizesKeep}
 use borrow.Author.Needs.{needs}
 use Rattle.rules.proofs.sizes_keep.Statement.{statement}
 use Rattle.rules.proofs.sizes_keep.Tie as tie

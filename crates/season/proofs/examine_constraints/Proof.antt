@@ -59,8 +59,8 @@ use Rattle.reader.specs.Sizes.{Measured, outOfRange}
 use Rattle.season.specs.Examination.{Examination, further}
 use Rattle.reader.specs.declared.cursor.Cursor.{Cursor}
 use Rattle.season.specs.declared.Examined.{Examined}
-use Rattle.reader.proofs.Read.{InRange, in-range}
-use Rattle.season.proofs.Pass.{Passed, passed-none, passed-more, passed-small, passed-all}
+use Rattle.reader.proofs.Read.{SizesInRange, in-range}
+use Rattle.season.proofs.Pass.{PassedTests, passed-none, passed-more, passed-small, passed-all}
 use Rattle.reader.proofs.cursor.Cursor as T₀
 use Rattle.reader.proofs.cursor.Cursor.Laws as T′
 use Rattle.season.proofs.Examined as X
@@ -154,7 +154,7 @@ module _ {M : Type 1} (𝓤 : URA M) (H : Heap 𝓤) (A : Atoms 𝓤) (W : Given
   abbrev Token : Item 𝓤
   Token = ‵ (flft κ q) ⊛ ‵ ftrue
 
-  range : InRange z
+  range : SizesInRange z
   range = in-range z (ok .1)
 
   -- what is known of the cursor made, of the constraint read, of the answer, and of the cursor moved
@@ -173,7 +173,7 @@ module _ {M : Type 1} (𝓤 : URA M) (H : Heap 𝓤) (A : Atoms 𝓤) (W : Given
     x : Examined
     season : r .season ≡ s
     most : r .at ≤ z .constraints
-    passed : Passed (decode (now s)) z (r .at) x
+    passed : PassedTests (decode (now s)) z (r .at) x
     is-r : Is (B (κ, tt)) r (T′.lowered r ∷ [])
     is-x : Is X.the-row x (X′.lowered x ∷ [])
 

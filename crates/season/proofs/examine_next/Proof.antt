@@ -3,12 +3,12 @@ use mathlib.Core.Path.{sym, _∙_}
 use native.Mathlib.Omega.{arith}
 use borrow.Author.Needs.{needs}
 use borrow.Author.Tests.{not-true, not-false}
-use Rattle.reader.proofs.Read.{InRange, in-range}
+use Rattle.reader.proofs.Read.{SizesInRange, in-range}
 use Rattle.season.proofs.Pass.{ones-small}
 use Rattle.season.proofs.examine_next.Statement.{statement}
 use Rattle.season.proofs.examine_next.Tie as tie
 
-ranges : (c : tie.Start) → InRange (c .args .x .sizes)
+ranges : (c : tie.Start) → SizesInRange (c .args .x .sizes)
 ranges c = in-range (c .args .x .sizes) (c .pre .0)
 
 obeys-requires : tie.Need-obeys-requires

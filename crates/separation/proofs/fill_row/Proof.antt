@@ -3,17 +3,17 @@ use mathlib.Core.Path.{sym, _∙_}
 use Prim.Native.Nat.{_-_, _<_}
 use lib.ListN.{length}
 use Rattle.tables.specs.Tables.{xOf}
-use Rattle.separation.specs.Pairs.{closeness}
-use Rattle.groups.proofs.Walk.{RowPassed, row-start, row-place, row-turn, row-end}
+use Rattle.separation.specs.Closeness.{closeness}
+use Rattle.groups.proofs.MemberWalk.{RowPassed, row-start, row-place, row-turn, row-end}
 use borrow.Author.Needs.{needs}
 use Rattle.separation.proofs.fill_row.Statement.{statement}
 use Rattle.separation.proofs.fill_row.Tie as tie
 
 abbrev Inv-loop : tie.InvT-loop
-Inv-loop meets group w n p i e out₀ at₀ m₀ out at m = RowPassed n group (closeness (xOf meets) w p) i m at out
+Inv-loop meets group w n p i at out₀ next₀ m₀ out next m = RowPassed n group (closeness (xOf meets) w p) i m next out
 
 abbrev μ-loop : tie.MeasureT-loop
-μ-loop meets group w n p i e out₀ at₀ m₀ out at m = n - m .at
+μ-loop meets group w n p i at out₀ next₀ m₀ out next m = n - m .at
 
 above-requires : tie.Need-above-requires Inv-loop μ-loop
 above-requires c κs = search needs
@@ -30,7 +30,7 @@ pair-closeness-requires : tie.Need-pair-closeness-requires Inv-loop μ-loop
 pair-closeness-requires c κs = let x = c .next .ensures _ _ (c .before .before .before .loop .inv .ahead) in search needs
 
 -- there is a place for the figure
-room : (c : tie.After-pair-closeness Inv-loop μ-loop) → let l = c .before .before .before .before .loop in l .at < length (l .out)
+room : (c : tie.After-pair-closeness Inv-loop μ-loop) → let l = c .before .before .before .before .loop in l .next < length (l .out)
 room c = row-place (c .before .before .before .before .loop .inv) (c .before .next .ensures)
 
 mul-out : tie.Need-mul-out Inv-loop μ-loop
@@ -39,8 +39,8 @@ mul-out c = let r = room c in search needs
 slice-write-out : tie.Need-slice-write-out Inv-loop μ-loop
 slice-write-out c = room c
 
-add-at : tie.Need-add-at Inv-loop μ-loop
-add-at c = let r = room c in search needs
+add-next : tie.Need-add-next Inv-loop μ-loop
+add-next c = let r = room c in search needs
 
 loop-less : tie.Need-loop-less Inv-loop μ-loop
 loop-less c = let x = c .before .next .ensures _ _ (c .before .before .before .before .loop .inv .ahead) in search needs
@@ -66,7 +66,7 @@ fill-row-spec =
     pair-closeness-requires
     mul-out
     slice-write-out
-    add-at
+    add-next
     loop-less
     loop-again
     same-length

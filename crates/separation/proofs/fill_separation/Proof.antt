@@ -7,9 +7,9 @@ use Rattle.robinx.specs.Groups.{pairs}
 use Rattle.robinx.specs.Kinds.{kindOf, formOf}
 use Rattle.robinx.specs.Deviations.{devSE1}
 use Rattle.tables.specs.Tables.{xOf}
-use Rattle.separation.specs.Pairs.{closeness}
-use Rattle.opponents.proofs.Ready.{limits, places-of}
-use Rattle.groups.proofs.Walk.{RowsPassed, rows-start, rows-place, rows-turn, rows-end}
+use Rattle.separation.specs.Closeness.{closeness}
+use Rattle.opponents.proofs.Fillable.{limits, places-of}
+use Rattle.groups.proofs.MemberWalk.{RowsPassed, rows-start, rows-place, rows-turn, rows-end}
 use borrow.Author.Needs.{needs}
 use Rattle.separation.proofs.fill_separation.Statement.{statement}
 use Rattle.separation.proofs.fill_separation.Tie as tie

@@ -1,7 +1,7 @@
 -- `separation::pair_closeness` meets its contract. Assumes nothing.
 use borrow.Author.Needs.{needs}
 use denote.Ref.{now}
-use Rattle.separation.proofs.Meetings.{pair-close}
+use Rattle.separation.proofs.PairMeetings.{pair-close}
 use Rattle.separation.proofs.pair_closeness.Statement.{statement}
 use Rattle.separation.proofs.pair_closeness.Tie as tie
 

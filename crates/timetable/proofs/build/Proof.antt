@@ -7,7 +7,7 @@ use borrow.Author.Tests.{not-true, not-false}
 use lib.ListN.{length}
 use Rattle.tables.specs.Tables.{tables}
 use Rattle.timetable.proofs.FirstGames.{unplaced-next, unplaced-low}
-use Rattle.timetable.proofs.Turns.{Begun, none-yet, ends-above, ends-busy, next-turn, ends-whole}
+use Rattle.timetable.proofs.BuildTurns.{Begun, none-yet, ends-above, ends-busy, next-turn, ends-whole}
 use Rattle.timetable.proofs.build.Statement.{statement}
 use Rattle.timetable.proofs.build.Tie as tie
 

@@ -1,5 +1,5 @@
 -- Lifted and put: the two steps of Steps, one after the other. Assumes nothing.
-use Rattle.timetable.proofs.Steps.{fits-reslotted}
+use Rattle.timetable.proofs.TableSteps.{fits-reslotted}
 use borrow.Author.Needs.{needs}
 use Rattle.timetable.proofs.reslot.Statement.{statement}
 use Rattle.timetable.proofs.reslot.Tie as tie

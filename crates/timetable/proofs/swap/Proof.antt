@@ -1,6 +1,6 @@
 -- Lifted, lifted, put, put: the four steps of Steps, one after the other. Assumes nothing.
 use native.Mathlib.Omega.{arith}
-use Rattle.timetable.proofs.Steps.{fits-swapped}
+use Rattle.timetable.proofs.TableSteps.{fits-swapped}
 use borrow.Author.Needs.{needs}
 use Rattle.timetable.proofs.swap.Statement.{statement}
 use Rattle.timetable.proofs.swap.Tie as tie

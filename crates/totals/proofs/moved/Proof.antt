@@ -44,7 +44,7 @@ use denote.Exit.{yes}
 use Rattle.totals.specs.declared.Totals.{Totals}
 use Rattle.totals.proofs.Totals as T
 use Rattle.totals.proofs.Totals.Laws as T′
-use Rattle.totals.specs.Running.{movedBy}
+use Rattle.totals.specs.RunningTotals.{movedBy}
 use Rattle.totals.proofs.apply as apply
 use Rattle.totals.proofs.apply.Symbol as apply-def
 use Rattle.totals.proofs.apply.Symbol.{name as #apply}

@@ -3,7 +3,7 @@ use Prim.Native.Nat.{suc, _<_, _-_, _^_}
 use mathlib.Core.Path.{_≡_}
 use native.Mathlib.Omega.{arith}
 use borrow.Author.Tests.{lt-ltb}
-use Rattle.totals.proofs.Running.{minus-one-less}
+use Rattle.totals.proofs.RunningTotals.{minus-one-less}
 use borrow.Author.Needs.{needs}
 use Rattle.totals.proofs.signed.Statement.{statement}
 use Rattle.totals.proofs.signed.Tie as tie

@@ -1,5 +1,5 @@
 -- A filled stretch is small, so its penalty fits.
-use Rattle.books.proofs.Turns.{small}
+use Rattle.books.proofs.WalkTurns.{small}
 use borrow.Author.Needs.{needs}
 use Rattle.books.proofs.walk.price.Statement.{statement}
 use Rattle.books.proofs.walk.price.Tie as tie

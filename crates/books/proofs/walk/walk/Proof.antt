@@ -6,7 +6,7 @@ use native.Mathlib.Omega.{arith}
 use denote.Ref.{now}
 use borrow.Author.Needs.{needs}
 use Rattle.tables.specs.Tables.{tables}
-use Rattle.books.proofs.Turns.{Walk, Turn, turn, all, ranges}
+use Rattle.books.proofs.WalkTurns.{Walk, WalkTurn, turn, all, ranges}
 use Rattle.books.proofs.Walked.{walked-none, walked-done}
 use Rattle.books.proofs.walk.walk.Statement.{statement}
 use Rattle.books.proofs.walk.walk.Tie as tie
@@ -31,7 +31,7 @@ entries-of-requires c κs = search needs
 here : (c : tie.After-entries-of Inv-loop μ-loop)
     → let l = c .before .before .before .before in
     let a = l .before .before .before .before .args in
-    Turn (now (a .season)) (a .z) (a .touch) (tables (now (a .home)) (now (a .away)) (now (a .meets))) (now (a .ledger)) (now (a .tally))
+    WalkTurn (now (a .season)) (a .z) (a .touch) (tables (now (a .home)) (now (a .away)) (now (a .meets))) (now (a .ledger)) (now (a .tally))
     (l .loop .k)
     (l .loop .at)
     (l .loop .ledger)

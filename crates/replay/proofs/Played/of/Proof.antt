@@ -1,7 +1,7 @@
 -- The first reply's changes are the sums. Assumes nothing.
 use borrow.Author.Needs.{needs}
 use Rattle.replay.proofs.Words.{read-back}
-use Rattle.replay.proofs.Steps.{begun-is}
+use Rattle.replay.proofs.CallSteps.{begun-is}
 use Rattle.replay.proofs.Played.of.Statement.{statement}
 use Rattle.replay.proofs.Played.of.Tie as tie
 

@@ -1,7 +1,7 @@
 -- The next reply's changes are added. Assumes nothing.
 use borrow.Author.Needs.{needs}
 use Rattle.replay.proofs.Words.{read-back}
-use Rattle.replay.proofs.Steps.{with-is}
+use Rattle.replay.proofs.CallSteps.{with-is}
 use Rattle.replay.proofs.Played.then.Statement.{statement}
 use Rattle.replay.proofs.Played.then.Tie as tie
 

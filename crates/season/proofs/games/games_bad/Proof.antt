@@ -6,12 +6,12 @@ use native.Mathlib.Omega.{arith}
 use Prim.Native.Nat.{_≤_, _-_}
 use lib.ListN.{length, getD}
 use denote.Ref.{now}
-use Rattle.season.proofs.Meetings.{Counted, counted-none, counted-more, counted-bad, counted-good}
+use Rattle.season.proofs.Meetings.{MeetingsCounted, counted-none, counted-more, counted-bad, counted-good}
 use Rattle.season.proofs.games.games_bad.Statement.{statement}
 use Rattle.season.proofs.games.games_bad.Tie as tie
 
 abbrev Inv-loop : tie.InvT-loop
-Inv-loop homes aways n counts₀ g₀ counts g = Counted n homes aways counts g × (g ≤ length homes)
+Inv-loop homes aways n counts₀ g₀ counts g = MeetingsCounted n homes aways counts g × (g ≤ length homes)
 
 abbrev μ-loop : tie.MeasureT-loop
 μ-loop homes aways n counts₀ g₀ counts g = length homes - g

@@ -10,16 +10,16 @@ use Rattle.robinx.specs.declared.Constraint.{Constraint}
 use Rattle.robinx.proofs.Limits.{Obeys, obeyed}
 use Rattle.masks.proofs.Width.{over-stop}
 use Rattle.tables.specs.Tables.{Tables}
-use Rattle.opponents.specs.Figures.{Ready, Given}
+use Rattle.opponents.specs.Fillable.{Fillable, TiedGroup}
 
-module _ {n P : ℕ} {c : Constraint} {ts : Tables} {out : List ℕ} (r : Ready n P c ts out) where
+module _ {n P : ℕ} {c : Constraint} {ts : Tables} {out : List ℕ} (r : Fillable n P c ts out) where
   pub limits : Obeys n P c
   limits = obeyed n P c (r .rules)
 
-  pub given-t1 : Given n (c .t1) ts
+  pub given-t1 : TiedGroup n (c .t1) ts
   given-t1 = record { teams = r .teams; group = limits .t1; tied = r .tied }
 
-  pub given-t2 : Given n (c .t2) ts
+  pub given-t2 : TiedGroup n (c .t2) ts
   given-t2 = record { teams = r .teams; group = limits .t2; tied = r .tied }
 
   pub places-of : {k : Kind} → kindOf (c .kind) ≡ k → length out ≡ inShape (formOf k .shape) n P c

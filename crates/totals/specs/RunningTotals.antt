@@ -10,7 +10,7 @@ use Rattle.robinx.specs.declared.Constraint.{Constraint}
 use Rattle.totals.specs.declared.Totals.{Totals}
 
 -- a sum over the hard constraints and the same sum over the soft ones, modulo 2^64
-pub record Holds (sum : (Constraint → Bool) → ℕ) (t : Totals) : Type 0 where
+pub record TotalsOf (sum : (Constraint → Bool) → ℕ) (t : Totals) : Type 0 where
   pub hard : t .hard ≡ sum isHard % 2 ^ 64
   pub soft : t .soft ≡ sum isSoft % 2 ^ 64
 

@@ -10,7 +10,7 @@ use Rattle.robinx.specs.Rules.{obeys}
 use Rattle.robinx.specs.declared.Constraint.{Constraint}
 use Rattle.tables.specs.Tables.{Tables, Tied}
 
-pub record Ready (n P : ℕ) (c : Constraint) (t : Tables) (out : List ℕ) : Type 0 where
+pub record Fillable (n P : ℕ) (c : Constraint) (t : Tables) (out : List ℕ) : Type 0 where
   pub teams : n ≤ mostTeams
   pub slots : P ≤ mostSlots
   pub rules : obeys n P c ≡ true
@@ -18,7 +18,7 @@ pub record Ready (n P : ℕ) (c : Constraint) (t : Tables) (out : List ℕ) : Ty
   pub places : length out ≡ entries n P c
 
 -- the tables are tied, and the group has no teams but the n
-pub record Given (n T : ℕ) (t : Tables) : Type 0 where
+pub record TiedGroup (n T : ℕ) (t : Tables) : Type 0 where
   pub teams : n ≤ mostTeams
   pub group : T < 2 ^ n
   pub tied : Tied n t

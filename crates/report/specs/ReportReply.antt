@@ -17,12 +17,12 @@ mostBytes = 6 + 2 * mostGames + 24 * mostConstraints + mostGames + 1
 abbrev pub upToSix : List ℕ → List Sentence
 upToSix season = ofSeason season ++ sentence 6 (sentence6 (decode season)) ∷ []
 
-abbrev pub unlessFault : ℕ → Reply → Reply
-unlessFault zero r = r
-unlessFault (suc number) r = declined (suc number)
+abbrev pub replyUnless : ℕ → Reply → Reply
+replyUnless zero r = r
+replyUnless (suc number) r = declined (suc number)
 
 unfoldable pub reportReply : List ℕ → Reply
 reportReply input =
     let m = decode (seasonOf input) in
     let x = timetable m (sheetOf input) in
-    unlessFault (reportFault input) (accepted (verdict m (sheetOf input) (total isHard m x)) (pos (total isHard m x)) (pos (total isSoft m x)))
+    replyUnless (reportFault input) (accepted (verdict m (sheetOf input) (total isHard m x)) (pos (total isHard m x)) (pos (total isSoft m x)))

@@ -15,9 +15,9 @@ use Rattle.robinx.specs.Timetable.{meet}
 use Rattle.robinx.specs.Deviations.{tooClose}
 use Rattle.robinx.proofs.Bits.{at-bits, or-has, front-has}
 use Rattle.masks.proofs.Width.{closeness-stop}
-use Rattle.masks.proofs.Walk.{close-ext}
+use Rattle.masks.proofs.GapWalk.{close-ext}
 use Rattle.tables.specs.Tables.{xOf, cell}
-use Rattle.separation.specs.Pairs.{closeness}
+use Rattle.separation.specs.Closeness.{closeness}
 
 -- slot k is in one of the masks
 in-either : (m n k : ℕ) → has m k || has n k ≡ ltb 0 (bit m k + bit n k)

@@ -16,7 +16,7 @@ use Rattle.tables.specs.Tables.{Tables, Tried}
 use Rattle.timetable.specs.OfSheet.{Teams, InRange, Fits, Empty, unplaced, above, Builds}
 use Rattle.timetable.specs.declared.Built.{Built}
 use Rattle.timetable.proofs.Laws.{in-range-set}
-use Rattle.timetable.proofs.Steps.{fits-tried}
+use Rattle.timetable.proofs.TableSteps.{fits-tried}
 use Rattle.timetable.proofs.FirstGames.{placedTo, none-at, later, all-placed, clash-of-first, fits-none, unplaced-next}
 
 -- Before turn g the first g games fit and are in the tables, and those of them that have no slot are counted.

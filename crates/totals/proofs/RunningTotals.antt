@@ -13,7 +13,7 @@ use Rattle.robinx.specs.Calls.{gained, lost, change}
 use Rattle.robinx.specs.declared.Constraint.{Constraint}
 use Rattle.totals.specs.declared.Totals.{Totals}
 use Rattle.robinx.proofs.Sums.{sum-step}
-use Rattle.totals.specs.Running.{Holds, Adds}
+use Rattle.totals.specs.RunningTotals.{TotalsOf, Adds}
 
 pub minus-one-less : (m : ℕ) → negsuc 0 -ℤ pos m ≡ negsuc m
 minus-one-less zero = refl
@@ -27,13 +27,13 @@ one-more : (a s p v s′ : ℕ) → a ≡ s % 2 ^ 64 → v ≡ (a + p) % 2 ^ 64 
 one-more a s p v s′ h e g = e ∙ rw (h, g) (mod-add-mod s (2 ^ 64) p)
 
 pub holds-more : {s s′ : (Constraint → Bool) → ℕ} {t r : Totals} (c : Constraint) (p : ℕ)
-    → Holds s t → Adds t (c .hard) p r → Grown s c p s′ → Holds s′ r
+    → TotalsOf s t → Adds t (c .hard) p r → Grown s c p s′ → TotalsOf s′ r
 holds-more {s} {s′} {t} {r} c p h a g = record {
   hard = one-more (t .hard) (s isHard) (only (isHard c) p) (r .hard) (s′ isHard) (h .hard) (a .0) (g isHard);
   soft = one-more (t .soft) (s isSoft) (only (isSoft c) p) (r .soft) (s′ isSoft) (h .soft) (a .1) (g isSoft);
 }
 
-pub holds-same : {s s′ : (Constraint → Bool) → ℕ} {t : Totals} → Holds s t → ((want : Constraint → Bool) → s′ want ≡ s want) → Holds s′ t
+pub holds-same : {s s′ : (Constraint → Bool) → ℕ} {t : Totals} → TotalsOf s t → ((want : Constraint → Bool) → s′ want ≡ s want) → TotalsOf s′ t
 holds-same {s} {s′} {t} h e = record { hard = rw (e isHard) (h .hard); soft = rw (e isSoft) (h .soft) }
 
 -- The sums that a walk over touched constraints gathers: f gives the summand of each.
@@ -52,8 +52,8 @@ change-mod : (G g l d : ℕ) → g ≡ G % 2 ^ 64 → d ≡ (g + (2 ^ 64 - l)) %
 change-mod G g l d h e = e ∙ rw h (mod-add-mod G (2 ^ 64) (2 ^ 64 - l))
 
 module _ (m : Instance) (t : ℕ → Bool) (x : X) (tally : List ℕ) (g l : Totals)
-    (got : Holds (λ want. gained want m t x (m .C)) g)
-    (gone : Holds (λ want. lost want m t tally (m .C)) l) (d : ℕ) where
+    (got : TotalsOf (λ want. gained want m t x (m .C)) g)
+    (gone : TotalsOf (λ want. lost want m t tally (m .C)) l) (d : ℕ) where
   pub hard-change : d ≡ (g .hard + (2 ^ 64 - l .hard)) % 2 ^ 64 → d ≡ change isHard m t x tally
   unfolding change
   hard-change e = rw (← gone .hard) (change-mod _ (g .hard) (l .hard) d (got .hard) e)

@@ -16,15 +16,15 @@ use Rattle.robinx.proofs.Sums.{sum-add}
 use Rattle.robinx.proofs.Bounds.{gamesUpTo-le}
 use Rattle.robinx.proofs.Ext.{sum-ext, each-ext, eachPair-ext}
 use Rattle.groups.specs.declared.Members.{Members}
-use Rattle.groups.specs.Walk.{Ahead, From, Step}
-use Rattle.groups.proofs.Walk.{to-next, to-end}
+use Rattle.groups.specs.MemberWalk.{Ahead, From, Step}
+use Rattle.groups.proofs.MemberWalk.{to-next, to-end}
 use Rattle.tables.specs.Tables.{Tables, xOf}
 use Rattle.rows.specs.Rows.{places, Holds, HoldsAt, marked, upTo, laid, laidAt}
 use Rattle.rows.proofs.Rows.{laid-holds, laidAt-length, laidAt-holds, laidAt-other, farthest-ext, farthest-of, worst-less}
-use Rattle.opponents.specs.Figures.{Ready}
+use Rattle.opponents.specs.Fillable.{Fillable}
 use Rattle.opponents.specs.Games.{MaskOf}
-use Rattle.fairness.specs.Running.{running, Counted, apart, rowsApart, sidesApart}
-use Rattle.opponents.proofs.Ready.{limits}
+use Rattle.fairness.specs.RunningCounts.{running, Counted, apart, rowsApart, sidesApart}
+use Rattle.opponents.proofs.Fillable.{limits}
 
 -- a mask's running counts are those of the games it stands for
 pub running-of : (n : ℕ) (x : X) (d T t m : ℕ) → MaskOf (gamesAgainst n x d T t) m → (k : ℕ) → k < mostSlots → upTo m k ≡ running n x d T t k
@@ -103,7 +103,7 @@ pub members-apart : (e : List ℕ) (kmax : ℕ) {n : ℕ} {x : X} {d T : ℕ} {r
 members-apart e kmax h i j li lj hi hj = ap (λ (v : ℕ). v - kmax) (farthest-ext e mostSlots (h .row i li hi) (h .row j lj hj))
 
 -- The constraint's own deviations: e is the row of S.
-module _ {n P : ℕ} {c : Constraint} {ts : Tables} {out : List ℕ} (r : Ready n P c ts out) where
+module _ {n P : ℕ} {c : Constraint} {ts : Tables} {out : List ℕ} (r : Fillable n P c ts out) where
   one-game : (t k : ℕ) → t < n → k < mostSlots → sumTo (λ j. xOf (ts .meets) t j k + xOf (ts .meets) j t k) n ≤ 1
   one-game t k lt lk =
       let at = r .tied in

@@ -7,7 +7,7 @@ use Rattle.robinx.specs.Calls.{Buffers, Outcome, outcome, Call, openCall, callO
 use Rattle.robinx.specs.declared.Reply.{Reply}
 use Rattle.replay.specs.declared.Played.{Played}
 use Rattle.replay.specs.Word.{word}
-use Rattle.replay.specs.Play.{last, added, begun, withReply, Plays}
+use Rattle.replay.specs.Play.{last, added, begun, withReply, Replays}
 use Rattle.replay.proofs.Words.{word-adds}
 use Rattle.replay.proofs.Lists.{last-more, added-more}
 
@@ -23,7 +23,7 @@ with-is p r a b h s = rw (h, s, a, b)
 
 module _ (season : List ℕ) (b : Buffers) where
   -- the opening alone
-  pub plays-open : {left : Buffers} {r : Reply} {p : Played} → outcome r left ≡ openCall season b → p ≡ begun r → Plays season b [] p left
+  pub plays-open : {left : Buffers} {r : Reply} {p : Played} → outcome r left ≡ openCall season b → p ≡ begun r → Replays season b [] p left
   unfolding last added
   plays-open e is = rw is (record {
     lasts = e;
@@ -39,8 +39,8 @@ module _ (season : List ℕ) (b : Buffers) where
   sum-more d made k s o e l = rw (added-more season d (openCall season b) made k, word-adds, e, l)
 
   -- one call more
-  pub plays-next : {made : List Call} {p : Played} {left left′ : Buffers} {r : Reply} (k : Call) → Plays season b made p left
-      → outcome r left′ ≡ callOn season left k → Plays season b (made ++ k ∷ []) (withReply p r) left′
+  pub plays-next : {made : List Call} {p : Played} {left left′ : Buffers} {r : Reply} (k : Call) → Replays season b made p left
+      → outcome r left′ ≡ callOn season left k → Replays season b (made ++ k ∷ []) (withReply p r) left′
   plays-next {made} {p} {left} {left′} {r} k h e =
       let l : outcome r left′ ≡ last season (openCall season b) (made ++ k ∷ []) =
       e ∙ ap (λ (o : Outcome). callOn season (o .left) k) (h .lasts) ∙ sym (last-more season (openCall season b) made k) in
@@ -54,10 +54,10 @@ module _ (season : List ℕ) (b : Buffers) where
 pub record Made (season : List ℕ) (b : Buffers) (all rest : List Call) (p : Played) (left : Buffers) : Type 0 where
   pub made : List Call
   pub split : made ++ rest ≡ all
-  pub plays : Plays season b made p left
+  pub plays : Replays season b made p left
 
 module _ {season : List ℕ} {b : Buffers} {all : List Call} where
-  pub none-made : {p : Played} {left : Buffers} → Plays season b [] p left → Made season b all all p left
+  pub none-made : {p : Played} {left : Buffers} → Replays season b [] p left → Made season b all all p left
   none-made h = record { made = []; split = refl; plays = h }
 
   pub one-made : {rest : List Call} {p p′ : Played} {left left′ : Buffers} {r : Reply} {k : Call} → Made season b all (k ∷ rest) p left
@@ -68,5 +68,5 @@ module _ {season : List ℕ} {b : Buffers} {all : List Call} where
     plays = plays-next season b k (h .plays) e;
   })
 
-  pub all-made : {p : Played} {left : Buffers} → Made season b all [] p left → Plays season b all p left
+  pub all-made : {p : Played} {left : Buffers} → Made season b all [] p left → Replays season b all p left
   all-made {p} {left} h = rw (← h .split, append-nil) (h .plays)

@@ -12,14 +12,14 @@ use Rattle.robinx.specs.Sums.{sumTo, only}
 use Rattle.robinx.specs.Groups.{has, size, pairs}
 use Rattle.robinx.specs.Deviations.{each, eachPair}
 use Rattle.robinx.proofs.Sums.{sum-step}
-use Rattle.robinx.proofs.Sizes.{size-le}
+use Rattle.robinx.proofs.GroupSizes.{size-le}
 use Rattle.robinx.proofs.Stops.{passed}
 use Rattle.robinx.proofs.SetBits.{none-left}
 use Rattle.robinx.proofs.Filled.{FilledEach, each-none, each-room, each-taken, each-skipped, each-done}
 use Rattle.robinx.proofs.Filled.{FilledRow, row-none, row-room, row-taken, row-skipped, row-done}
 use Rattle.robinx.proofs.Filled.{FilledRows, rows-none, rows-skipped, rows-done}
 use Rattle.groups.specs.declared.Members.{Members}
-use Rattle.groups.specs.Walk.{Ahead, From, Next, Step}
+use Rattle.groups.specs.MemberWalk.{Ahead, From, Next, Step}
 
 -- What a place without a member keeps, the walk keeps up to the next member, and to the end.
 module _ {n T : ℕ} {m : Members} (F : ℕ → Type 0) (skip : (j : ℕ) → has T j ≡ false → F j → F (j + 1)) (f : F (m .at)) where

@@ -18,13 +18,13 @@ use Rattle.robinx.specs.declared.Season.{Season}
 use Rattle.robinx.proofs.Sums.{sum-add, any-none}
 use Rattle.robinx.proofs.Limits.{obeyed}
 use Rattle.robinx.proofs.Bounds.{sum-small}
-use Rattle.rules.specs.Counted.{onesIn}
+use Rattle.rules.specs.CountedBits.{onesIn}
 use Rattle.robinx.specs.Kinds.{formAt}
-use Rattle.reader.proofs.Read.{InRange, in-range, teams-read, slots-read, constraints-read, sizes-tested}
+use Rattle.reader.proofs.Read.{SizesInRange, in-range, teams-read, slots-read, constraints-read, sizes-tested}
 use Rattle.rules.proofs.Members.{entries-counted}
 use Rattle.tables.specs.Tables.{Tables, xOf}
-use Rattle.opponents.specs.Figures.{Ready}
-use Rattle.totals.specs.Running.{Adds}
+use Rattle.opponents.specs.Fillable.{Fillable}
+use Rattle.totals.specs.RunningTotals.{Adds}
 use Rattle.books.specs.Walk.{Given, isTouched}
 use Rattle.books.specs.declared.walk.Touch.{Touch}
 use Rattle.books.specs.declared.walk.Moved.{Moved}
@@ -37,7 +37,7 @@ Walk s touch meets ledger₀ tally₀ k a ledger tally sums =
     Walked (decode s) (λ c. isTouched touch (decode s .constraint c)) (xOf meets) ledger₀ tally₀ k a ledger tally (sums .gained) (sums .lost)
 
 -- a filled stretch leaves room for its penalty
-pub small : {n P : ℕ} {c : Constraint} {t : Tables} {out : List ℕ} → Ready n P c t out
+pub small : {n P : ℕ} {c : Constraint} {t : Tables} {out : List ℕ} → Fillable n P c t out
     → sum (deviations n P c (xOf (t .meets))) < 2 ^ 28
 small {n} {P} {c} {t} r =
     let o = obeyed n P c (r .rules) in
@@ -53,7 +53,7 @@ module _ {s : List ℕ} {z : Season} {t : Tables} {ledger tally : List ℕ} (g :
   pub all : z .constraints ≡ decode s .C
   all = constraints-read s (g .measured .sizes)
 
-  pub ranges : InRange z
+  pub ranges : SizesInRange z
   ranges = in-range z (sym (sizes-tested s (g .measured .sizes)) ∙ g .sizes)
 
   keeps : (k : ℕ) → k < z .constraints → obeys (decode s .n) (decode s .P) (decode s .constraint k) ≡ true
@@ -61,13 +61,13 @@ module _ {s : List ℕ} {z : Season} {t : Tables} {ledger tally : List ℕ} (g :
   keeps k l =
       not-false _ (any-none (λ c. not (obeys (decode s .n) (decode s .P) (decode s .constraint c))) (decode s .C) (g .rules) k (omega (arith, all)))
 
--- Turn number k, in the words of the code: c has been read, it has e deviations, and its stretch begins at a. The stretch lies in the
+-- WalkTurn number k, in the words of the code: c has been read, it has e deviations, and its stretch begins at a. The stretch lies in the
 -- ledger and can be filled; the turn ends with it filled, or with nothing written.
-pub record Turn (s : List ℕ) (z : Season) (touch : Touch) (t : Tables) (ledger₀ tally₀ : List ℕ)
+pub record WalkTurn (s : List ℕ) (z : Season) (touch : Touch) (t : Tables) (ledger₀ tally₀ : List ℕ)
     (k a : ℕ) (ledger tally : List ℕ) (sums : Moved) (c : Constraint) (e : ℕ) : Type 0 where
   pub fits : a + e ≤ length ledger
   pub counted : k < length tally
-  pub ready : Ready (z .teams) (z .slots) c t (take (a + e - a) (drop a ledger))
+  pub ready : Fillable (z .teams) (z .slots) c t (take (a + e - a) (drop a ledger))
   pub reworked : {ledger′ ys tally′ : List ℕ} {sums′ : Moved} → isTouched touch c ≡ true
       → ys ≡ deviations (z .teams) (z .slots) c (xOf (t .meets))
       → ledger′ ≡ take a ledger ++ (ys ++ drop (a + e - a) (drop a ledger))
@@ -99,7 +99,7 @@ module _ {s : List ℕ} {z : Season} {t : Tables} {ledger₀ tally₀ : List ℕ
   inside : a + e ≤ length ledger
   inside = rw entry (walked-fits w (g .ledger-length) (g .tally-length) more)
 
-  pub turn : Turn s z touch t ledger₀ tally₀ k a ledger tally sums c e
+  pub turn : WalkTurn s z touch t ledger₀ tally₀ k a ledger tally sums c e
   turn = record {
     fits = inside;
     counted = omega (arith, more, w .listed .long, g .tally-length);
