@@ -1,4 +1,1 @@
-pub mod Laid
-pub mod Walked
-pub mod WalkTurns
 pub mod Totalled

@@ -16,10 +16,10 @@ use Rattle.totals.specs.declared.Totals.{Totals}
 use Rattle.robinx.specs.declared.Reply.{Reply}
 use Rattle.robinx.proofs.Lengths.{length-listTo, list-beyond}
 use Rattle.touch.specs.Touched.{touchedByMove}
-use Rattle.books.specs.Walk.{isTouched, stored, Reworked}
+use Rattle.walk.specs.Walk.{isTouched, stored, Reworked}
 use Rattle.books.specs.Answer.{replyOf, Opened, Answered}
-use Rattle.books.specs.declared.walk.Touch.{Touch}
-use Rattle.books.specs.declared.walk.Moved.{Moved}
+use Rattle.walk.specs.declared.Touch.{Touch}
+use Rattle.walk.specs.declared.Moved.{Moved}
 use Rattle.totals.proofs.RunningTotals.{hard-change, soft-change}
 
 -- a list of two

@@ -1,6 +1,4 @@
 // The ledger and the tally: a walk works out the touched constraints, all of them when the books are opened, and the totals follow.
-pub mod walk;
-
 ghost use mathlib.Core.Path.{_≡_};
 ghost use mathlib.Core.Bool.{cond};
 ghost use Prim.Native.Nat.{_+_, _-_, _%_, _^_};
@@ -11,7 +9,7 @@ ghost use mir.Val.{toZ};
 ghost use Rattle.robinx.specs.Season.{decode};
 ghost use Rattle.robinx.specs.Calls.{movedTotal, accepted};
 ghost use Rattle.tables.specs.Tables.{tables, xOf};
-ghost use Rattle.books.specs.Walk.{Given, SoundTouch, isTouched, stored};
+ghost use Rattle.walk.specs.Walk.{Given, SoundTouch, isTouched, stored};
 ghost use Rattle.books.specs.Answer.{verdictOf, Opened, Answered};
 use robinx::Reply;
 use robinx::Season;

@@ -30,7 +30,7 @@ use Rattle.timetable.proofs.Fewer.{in-range-most}
 use Rattle.timetable.proofs.FirstGames.{unplaced-set, unplaced-low}
 use Rattle.touch.specs.Touched.{Possible}
 use Rattle.touch.specs.declared.Move.{Move}
-use Rattle.books.specs.Walk.{Given}
+use Rattle.walk.specs.Walk.{Given}
 use Rattle.books.specs.Answer.{Answered}
 use Rattle.admission.specs.Admission.{Ready, afterEntry}
 use Rattle.calls.specs.Moves.{moveOf}

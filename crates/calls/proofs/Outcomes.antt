@@ -25,10 +25,10 @@ use Rattle.season.proofs.Found.{measured}
 use Rattle.tables.specs.Tables.{Tables, xOf}
 use Rattle.timetable.specs.OfSheet.{unplaced}
 use Rattle.touch.specs.Touched.{noMove}
-use Rattle.books.specs.Walk.{Given, SoundTouch, isTouched}
+use Rattle.walk.specs.Walk.{Given, SoundTouch, isTouched}
 use Rattle.books.specs.Answer.{Opened, Answered}
 use Rattle.touch.specs.declared.Move.{Move}
-use Rattle.books.specs.declared.walk.Touch.{Touch}
+use Rattle.walk.specs.declared.Touch.{Touch}
 use Rattle.admission.specs.Admission.{Ready}
 use Rattle.calls.specs.Moves.{moveOf}
 use Rattle.calls.proofs.Shown.{whole, totals-small, tied, same-deviations, verdict-is}

@@ -71,7 +71,7 @@ pub extern "C" fn season_set(
     if a.fault != 0 {
         return calls::declined(a.fault);
     }
-    calls::set(
+    sets::set(
         season,
         a.sizes,
         sheet,
@@ -114,7 +114,7 @@ pub extern "C" fn season_exchange(
     if a.fault != 0 {
         return calls::declined(a.fault);
     }
-    calls::exchange(
+    exchanges::exchange(
         season,
         a.sizes,
         sheet,

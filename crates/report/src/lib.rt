@@ -1,5 +1,4 @@
-// The report of a season and its sheet (document 01, "Season A and its printout"): its rows, and their printing. What is printed is
-// outside the contracts; `print` works nothing out.
+// The report of a season and its sheet (docs/FORMAT.md, section 8): its rows as words.
 ghost use mathlib.Core.Path.{_≡_};
 ghost use mathlib.Core.List.{List, _∷_, [], _++_};
 ghost use Prim.Native.Nat.{ℕ, _+_, _*_, _≤_, _<_};
@@ -11,7 +10,6 @@ ghost use Rattle.reader.specs.Sizes.{Measured};
 ghost use Rattle.season.specs.Examination.{Examination};
 ghost use Rattle.report.specs.ReportReply.{upToSix, reportReply};
 ghost use Rattle.report.specs.ReportRows.{Written, TallyOf, penaltyOf, brokenOf, rowsOf, Reported};
-use libc::STDOUT_FILENO;
 use robinx::Reply;
 use robinx::Season;
 use season::Examined;
@@ -157,45 +155,4 @@ pub fn rows(input: &[u8], out: &mut [u64]) -> Report
     let end = season_end(input);
     let count = put_rows(&input[..end], reply.number, &tally, out);
     Report { fault: 0, count }
-}
-
-fn print_refused(number: u8) {
-    io::write_all(
-        STDOUT_FILENO,
-        &[b'r', b'e', b'f', b'u', b's', b'e', b'd', b' '],
-    );
-    io::print_decimal(STDOUT_FILENO, number as u64);
-    io::write_all(STDOUT_FILENO, &[b'\n']);
-}
-
-// Three numbers on one line.
-fn print_row(first: u64, second: u64, third: u64) {
-    io::print_decimal(STDOUT_FILENO, first);
-    io::write_all(STDOUT_FILENO, &[b' ']);
-    io::print_decimal(STDOUT_FILENO, second);
-    io::write_all(STDOUT_FILENO, &[b' ']);
-    io::print_decimal(STDOUT_FILENO, third);
-    io::write_all(STDOUT_FILENO, &[b'\n']);
-}
-
-fn print_rows(out: &[u64], count: usize)
-    requires { ⌜ 3 * count ≤ length (now out) ⌝ }
-{
-    let mut k = 0;
-    while k < count {
-        let at = 3 * k;
-        print_row(out[at], out[at + 1], out[at + 2]);
-        k += 1;
-    }
-}
-
-// Prints the report of an input.
-pub fn print(input: &[u8]) {
-    let mut out = [0u64; 3 * (Season::CONSTRAINTS + 1)];
-    let r = rows(input, &mut out);
-    if r.fault != 0 {
-        print_refused(r.fault);
-        return;
-    }
-    print_rows(&out, r.count);
 }

@@ -36,7 +36,7 @@ fn cut(length: usize) -> usize
 fn print_read(space: &mut [u8]) {
     let n = io::read_full(STDIN_FILENO, space);
     let kept = cut(n);
-    report::print(&space[..kept]);
+    printing::print(&space[..kept]);
 }
 
 fn print_case(length: usize)

@@ -4,5 +4,5 @@ use libc::STDIN_FILENO;
 fn main() {
     let mut input = [0u8; report::MOST_BYTES];
     let n = io::read_full(STDIN_FILENO, &mut input);
-    report::print(&input[..n]);
+    printing::print(&input[..n]);
 }

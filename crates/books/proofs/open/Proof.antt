@@ -1,7 +1,7 @@
 -- The totals follow the penalties, and the reply follows from them.
 use native.Mathlib.Omega.{arith}
 use borrow.Author.Needs.{needs}
-use Rattle.books.proofs.WalkTurns.{all}
+use Rattle.walk.proofs.WalkTurns.{all}
 use Rattle.books.proofs.Totalled.{opened}
 use Rattle.books.proofs.open.Statement.{statement}
 use Rattle.books.proofs.open.Tie as tie

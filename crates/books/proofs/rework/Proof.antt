@@ -1,7 +1,7 @@
 -- The totals are moved after the walk, which left them as they were, and the reply follows from them.
 use native.Mathlib.Omega.{arith}
 use borrow.Author.Needs.{needs}
-use Rattle.books.proofs.WalkTurns.{all}
+use Rattle.walk.proofs.WalkTurns.{all}
 use Rattle.books.proofs.Totalled.{answered}
 use Rattle.books.proofs.rework.Statement.{statement}
 use Rattle.books.proofs.rework.Tie as tie
