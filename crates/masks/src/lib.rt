@@ -1,6 +1,6 @@
 // Masks of slots: bit k of a u64 stands for slot k, counted from 0. Everything that knows that a mask is one word is in here.
 ghost use mathlib.Core.Path.{_≡_};
-ghost use Prim.Native.Nat.{_-_, _%_, _<_, _≤_, _^_};
+ghost use Prim.Native.Nat.{_-_, _/_, _%_, _<_, _≤_, _^_};
 ghost use lib.Bits.{bitOr};
 ghost use lib.Count.{ones};
 ghost use lib.Dec.{eqb, leb};
@@ -72,6 +72,28 @@ pub fn is_in(s: Slots, k: u64) -> bool
     ensures { λ r. ⌜ r ≡ has s k ⌝ }
 {
     (s >> k) % 2 == 1
+}
+
+// 1 for a slot of the mask, else 0.
+pub fn bit_at(s: Slots, k: usize) -> u8
+    requires { ⌜ k < mostSlots ⌝ }
+    ensures { λ r. ⌜ r ≡ bit s k ⌝ }
+{
+    ((s >> k) % 2) as u8
+}
+
+// The mask's first eight slots, as a byte.
+pub fn first_eight(s: Slots) -> u64
+    ensures { λ r. ⌜ r ≡ s % 256 ⌝ }
+{
+    s % 256
+}
+
+// The mask from its ninth slot on, moved down to the first.
+pub fn past_eight(s: Slots) -> Slots
+    ensures { λ r. ⌜ r ≡ s / 2 ^ 8 ⌝ }
+{
+    s >> 8
 }
 
 // The mask of one slot.

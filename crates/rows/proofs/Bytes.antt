@@ -6,6 +6,7 @@ use native.Mathlib.Omega.{arith}
 use native.Mathlib.Nat.{div-one, add-suc}
 use lib.Dec.{lit<}
 use lib.Pow.{pow-add, shr-shr}
+use Rattle.robinx.specs.Season.{mostSlots}
 use Rattle.robinx.specs.Sums.{sumTo}
 use Rattle.robinx.specs.Groups.{bit}
 use Rattle.robinx.proofs.Sums.{sum-bound}
@@ -70,7 +71,7 @@ module _ (v k : ℕ) where
   counted {rest} {q} er eq e =
       ap (λ (r : ℕ). r + q * 0x0101010101010101) e ∙ packed-more (upTo (rest % 256)) (λ j. upTo v (k + j)) q 8 (on er eq)
 
-  module _ {w : ℕ} (l : k ≤ 56) (e : Counts v k w) where
+  module _ {w : ℕ} (l : k + 8 ≤ mostSlots) (e : Counts v k w) where
     small : Bytes (λ j. upTo v (k + j)) 8
     small j lj = omega (arith, count-le v (suc (k + j)))
 

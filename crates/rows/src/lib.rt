@@ -17,7 +17,7 @@ pub fn spread(s: Slots, row: &mut [u8; Season::SLOTS])
 {
     let mut k = 0;
     while k < Season::SLOTS {
-        row[k] = ((s >> k) % 2) as u8 * 255;
+        row[k] = masks::bit_at(s, k) * 255;
         k += 1;
     }
 }
@@ -56,10 +56,10 @@ pub fn lay_at(v: Slots, rows: &mut [u8; PLACES], a: usize)
     let mut rest = v;
     let mut k: usize = 0;
     while k < Season::SLOTS {
-        let w = eight(rest % 256) + q * 0x0101010101010101;
+        let w = eight(masks::first_eight(rest)) + q * 0x0101010101010101;
         lay_eight(w, rows, a + k);
         q = w >> 56;
-        rest = rest >> 8;
+        rest = masks::past_eight(rest);
         k += 8;
     }
 }

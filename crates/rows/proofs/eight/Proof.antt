@@ -1,4 +1,4 @@
--- `masks::eight` meets its contract: its word is computed for each of the 256 bytes. Assumes nothing.
+-- `rows::eight` meets its contract: its word is computed for each of the 256 bytes. Assumes nothing.
 use mathlib.Core.Path.{_≡_, refl}
 use mathlib.Core.Bool.{Bool, false, not, _&&_}
 use Prim.Native.Nat.{ℕ, _+_, _*_, _/_, _%_, _^_, _<_}

@@ -1,8 +1,9 @@
--- `masks::farthest` meets its contract. Assumes nothing.
+-- `rows::farthest` meets its contract. Assumes nothing.
 use mathlib.Core.Path.{_≡_, refl}
 use Prim.Native.Nat.{_-_, _≤_}
 use native.Mathlib.Omega.{arith}
 use native.Mathlib.Numerals.{add-one}
+use Rattle.robinx.specs.Season.{mostSlots}
 use Rattle.robinx.specs.Sums.{maxTo}
 use Rattle.rows.specs.Rows.{rowAt, farthestTo}
 use borrow.Author.Needs.{needs}
@@ -10,10 +11,10 @@ use Rattle.rows.proofs.farthest.Statement.{statement}
 use Rattle.rows.proofs.farthest.Tie as tie
 
 abbrev Inv-loop : tie.InvT-loop
-Inv-loop rows a b e m₀ k₀ m k = (k ≤ 64) × (m ≡ farthestTo e (rowAt rows a) (rowAt rows b) k)
+Inv-loop rows a b e m₀ k₀ m k = (k ≤ mostSlots) × (m ≡ farthestTo e (rowAt rows a) (rowAt rows b) k)
 
 abbrev μ-loop : tie.MeasureT-loop
-μ-loop rows a b e m₀ k₀ m k = 64 - k
+μ-loop rows a b e m₀ k₀ m k = mostSlots - k
 
 loop-holds : tie.Need-loop-holds Inv-loop μ-loop
 unfolding farthestTo maxTo
@@ -58,7 +59,7 @@ loop-again c =
 returns : tie.Need-returns Inv-loop μ-loop
 returns c =
     let l = c .before .loop in
-    let e : l .k ≡ 64 = omega arith in rw (← e) (l .inv .1)
+    let e : l .k ≡ mostSlots = omega arith in rw (← e) (l .inv .1)
 
 pub farthest-spec : {M : Type 1} → statement M
 farthest-spec =

@@ -1,4 +1,4 @@
--- `masks::lay_eight` meets its contract. Assumes nothing.
+-- `rows::lay_eight` meets its contract. Assumes nothing.
 use denote.Ref.{now}
 use mathlib.Core.Path.{_≡_, refl}
 use Prim.Native.Nat.{_-_, _≤_}

@@ -1,4 +1,4 @@
--- `masks::runs` meets its contract. Assumes nothing.
+-- `rows::runs` meets its contract. Assumes nothing.
 use mathlib.Core.Path.{_≡_, refl}
 use Prim.Native.Nat.{_-_, _*_, _≤_}
 use native.Mathlib.Omega.{arith}

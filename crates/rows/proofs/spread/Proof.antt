@@ -1,8 +1,9 @@
--- `masks::spread` meets its contract. Assumes nothing.
+-- `rows::spread` meets its contract. Assumes nothing.
 use denote.Ref.{now}
-use mathlib.Core.Path.{_≡_, refl}
-use Prim.Native.Nat.{_-_, _≤_}
+use mathlib.Core.Path.{_≡_, refl, ap}
+use Prim.Native.Nat.{ℕ, _-_, _*_, _≤_}
 use native.Mathlib.Omega.{arith}
+use Rattle.robinx.specs.Season.{mostSlots}
 use Rattle.rows.specs.Rows.{marked, laid}
 use Rattle.rows.proofs.Rows.{laid-more}
 use borrow.Author.Needs.{needs}
@@ -10,20 +11,17 @@ use Rattle.rows.proofs.spread.Statement.{statement}
 use Rattle.rows.proofs.spread.Tie as tie
 
 abbrev Inv-loop : tie.InvT-loop
-Inv-loop s row₀ k₀ row k = (k ≤ 64) × (row ≡ laid row₀ (marked s) k)
+Inv-loop s row₀ k₀ row k = (k ≤ mostSlots) × (row ≡ laid row₀ (marked s) k)
 
 abbrev μ-loop : tie.MeasureT-loop
-μ-loop s row₀ k₀ row k = 64 - k
+μ-loop s row₀ k₀ row k = mostSlots - k
 
 loop-holds : tie.Need-loop-holds Inv-loop μ-loop
 unfolding laid
 loop-holds c = (search needs, refl)
 
-shr-row : tie.Need-shr-row Inv-loop μ-loop
-shr-row c = search needs
-
-cast-row : tie.Need-cast-row Inv-loop μ-loop
-cast-row c = search needs
+bit-at-requires : tie.Need-bit-at-requires Inv-loop μ-loop
+bit-at-requires c κs = search needs
 
 mul-row : tie.Need-mul-row Inv-loop μ-loop
 mul-row c = search needs
@@ -39,13 +37,14 @@ loop-less c = search needs
 
 loop-again : tie.Need-loop-again Inv-loop μ-loop
 loop-again c =
-    let l = c .before .loop in
-    let a = c .before .before .args in (search needs, laid-more (now (a .row)) (marked (a .s)) (l .k) (l .inv .1) refl)
+    let l = c .before .before .loop in
+    let a = c .before .before .before .args in
+    (search needs, laid-more (now (a .row)) (marked (a .s)) (l .k) (l .inv .1) (ap (λ (v : ℕ). v * 255) (c .bit-at .ensures)))
 
 returns : tie.Need-returns Inv-loop μ-loop
 returns c =
     let l = c .before .loop in
-    let e : l .k ≡ 64 = omega arith in rw (← e) (l .inv .1)
+    let e : l .k ≡ mostSlots = omega arith in rw (← e) (l .inv .1)
 
 pub spread-spec : {M : Type 1} → statement M
 spread-spec =
@@ -54,8 +53,7 @@ spread-spec =
     Inv-loop
     μ-loop
     loop-holds
-    shr-row
-    cast-row
+    bit-at-requires
     mul-row
     element-write-row
     add-k
