@@ -1,2 +1,4 @@
 pub mod Numbers
 pub mod Read
+pub mod WalkSteps
+pub mod CursorCalls

@@ -92,7 +92,8 @@ module _ (s : List ℕ) (z : Season) (measured : Measured s z) (range : SizesInR
       → k ≡ decode s .constraint c → y ≡ further x k → PassedTests (decode s) z (c + 1) y
   passed-more c x y k below none old ek ey = passed-by c x y k below (old .kept none) ek ey (obeys (decode s .n) (decode s .P) (decode s .constraint c)) refl
 
-  pub passed-small : (c : ℕ) (x : Examined) → c < z .constraints → x .fault ≡ 0 → PassedTests (decode s) z c x → (outOfRange (x .sizes) ≡ outOfRange z) × (x .entries + 496 < 2 ^ 64)
+  pub passed-small : (c : ℕ) (x : Examined) → c < z .constraints → x .fault ≡ 0 → PassedTests (decode s) z c x
+      → (outOfRange (x .sizes) ≡ outOfRange z) × (x .entries + 496 < 2 ^ 64)
   passed-small c x below none old = (ap outOfRange (old .kept none .0), omega (arith, old .kept none .1 .small, range .constraints, below))
 
   -- the cursor is at the end, or x is a refusal

@@ -1,2 +1,1 @@
-pub mod Meetings
 pub mod Examination

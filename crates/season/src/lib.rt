@@ -1,6 +1,4 @@
 // A season's bytes, read inside their ends, and the first true one of sentences 1 to 5.
-pub mod games;
-
 ghost use mathlib.Core.Path.{_≡_};
 ghost use mathlib.Core.Bool.{false};
 ghost use mathlib.Core.List.{_∷_, []};

@@ -2,7 +2,7 @@
 use mathlib.Core.Path.{_∙_}
 use denote.Ref.{now}
 use Rattle.reader.proofs.Read.{teams-read, in-range, right-length, as-many}
-use Rattle.season.proofs.Meetings.{games-alone}
+use Rattle.games.proofs.Meetings.{games-alone}
 use borrow.Author.Needs.{needs}
 use Rattle.season.proofs.meetings_bad.Statement.{statement}
 use Rattle.season.proofs.meetings_bad.Tie as tie

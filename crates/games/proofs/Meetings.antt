@@ -14,7 +14,7 @@ use Rattle.robinx.specs.Sums.{sumTo, only}
 use Rattle.robinx.specs.Refusals.{isBetween, encounters, badGame, sentence3, sentence4}
 use Rattle.robinx.proofs.Sums.{or-no, and-yes, sum-step, sum-mono, any-some, none-any}
 use Rattle.robinx.proofs.Limits.{decode-home}
-use Rattle.season.specs.Meetings.{ofGames, pairAt, refused}
+use Rattle.games.specs.Meetings.{ofGames, pairAt, refused}
 
 -- the teams of a game are two of n
 pub record Fit (n i j : ℕ) : Type 0 where

@@ -1,14 +1,14 @@
 -- After g games the table has their meetings; the first game that cannot be is sentence 4.
-use Rattle.season.specs.Meetings.{refused}
+use Rattle.games.specs.Meetings.{refused}
 use borrow.Author.Needs.{needs}
 use mathlib.Core.Path.{_≡_, sym, _∙_}
 use native.Mathlib.Omega.{arith}
 use Prim.Native.Nat.{_≤_, _-_}
 use lib.ListN.{length, getD}
 use denote.Ref.{now}
-use Rattle.season.proofs.Meetings.{MeetingsCounted, counted-none, counted-more, counted-bad, counted-good}
-use Rattle.season.proofs.games.games_bad.Statement.{statement}
-use Rattle.season.proofs.games.games_bad.Tie as tie
+use Rattle.games.proofs.Meetings.{MeetingsCounted, counted-none, counted-more, counted-bad, counted-good}
+use Rattle.games.proofs.games_bad.Statement.{statement}
+use Rattle.games.proofs.games_bad.Tie as tie
 
 abbrev Inv-loop : tie.InvT-loop
 Inv-loop homes aways n counts₀ g₀ counts g = MeetingsCounted n homes aways counts g × (g ≤ length homes)

@@ -5,7 +5,7 @@ ghost use Prim.Native.Nat.{_+_, _*_, _<_, _≤_};
 ghost use lib.ListN.{length, getD, set};
 ghost use Rattle.robinx.specs.Season.{mostTeams, mostPlaces};
 ghost use Rattle.robinx.specs.Refusals.{sentence4};
-ghost use Rattle.season.specs.Meetings.{pairAt, refused, ofGames};
+ghost use Rattle.games.specs.Meetings.{pairAt, refused, ofGames};
 use reader::wide;
 use robinx::Season;
 

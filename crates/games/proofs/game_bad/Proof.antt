@@ -5,11 +5,11 @@ use native.Mathlib.Omega.{arith}
 use lib.ListN.{getD}
 use denote.Ref.{now}
 use borrow.Author.Tests.{le-leb, lt-leb}
-use Rattle.season.specs.Meetings.{pairAt, refused}
-use Rattle.season.proofs.Meetings.{teams-fit}
+use Rattle.games.specs.Meetings.{pairAt, refused}
+use Rattle.games.proofs.Meetings.{teams-fit}
 use borrow.Author.Needs.{needs}
-use Rattle.season.proofs.games.game_bad.Statement.{statement}
-use Rattle.season.proofs.games.game_bad.Tie as tie
+use Rattle.games.proofs.game_bad.Statement.{statement}
+use Rattle.games.proofs.game_bad.Tie as tie
 
 -- the byte that was read counts the pair's meetings
 meetings : (c : tie.After-wide)
