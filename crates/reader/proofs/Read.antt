@@ -1,17 +1,14 @@
 -- The sizes that were read are those of the decoded season; sentences 2 and 3 by what was read.
 use mathlib.Core.Path.{_≡_, sym, ap, _∙_}
 use mathlib.Core.List.{List}
-use mathlib.Core.Bool.{true, false, _&&_, not}
+use mathlib.Core.Bool.{false, not}
 use Prim.Native.Nat.{ℕ, _+_, _*_, _≤_}
-use lib.Dec.{leb}
 use lib.ListN.{length}
-use borrow.Author.Tests.{leb-true, not-false, eq-eqb}
+use borrow.Author.Tests.{eq-eqb}
 use Rattle.robinx.specs.Season.{decode, seasonLength, homeTeams, awayTeams, mostTeams, mostSlots, mostGames, mostConstraints}
-use Rattle.robinx.specs.Rules.{fits}
 use Rattle.robinx.specs.Refusals.{sentence2, sentence3}
 use Rattle.robinx.specs.declared.Season.{Season}
-use Rattle.robinx.proofs.Sums.{and-yes}
-use Rattle.robinx.proofs.Limits.{fits-in, decode-home, decode-away}
+use Rattle.robinx.proofs.Limits.{sizes-in, decode-home, decode-away}
 use Rattle.reader.specs.Sizes.{sizesOf, Measured, outOfRange}
 
 module _ (s : List ℕ) {z : Season} (e : z ≡ sizesOf s) where
@@ -51,19 +48,8 @@ pub record SizesInRange (z : Season) : Type 0 where
 pub in-range : (z : Season) → outOfRange z ≡ false → SizesInRange z
 unfolding outOfRange
 in-range z e =
-    let constraints = and-yes (fits 2 mostTeams (z .teams) && fits 1 mostSlots (z .slots) && leb (z .games) mostGames) (leb (z .constraints) mostConstraints) (not-false _ e) in
-    let games = and-yes (fits 2 mostTeams (z .teams) && fits 1 mostSlots (z .slots)) (leb (z .games) mostGames) (constraints .0) in
-    let slots = and-yes (fits 2 mostTeams (z .teams)) (fits 1 mostSlots (z .slots)) (games .0) in
-    let teams-in = fits-in 2 mostTeams (z .teams) (slots .0) in
-    let slots-in = fits-in 1 mostSlots (z .slots) (slots .1) in
-    record {
-      teams-least = teams-in .0;
-      teams = teams-in .1;
-      slots-least = slots-in .0;
-      slots = slots-in .1;
-      games = leb-true (z .games) mostGames (games .1);
-      constraints = leb-true (z .constraints) mostConstraints (constraints .1);
-    }
+    let sizes = sizes-in (z .teams) (z .slots) (z .games) (z .constraints) e in
+    record { teams-least = sizes .0; teams = sizes .1; slots-least = sizes .2; slots = sizes .3; games = sizes .4; constraints = sizes .5 }
 
 module _ (s : List ℕ) where
   pub right-length : {z : Season} → Measured s z → sentence3 s ≡ false

@@ -1,30 +1,23 @@
 -- What `play` is proved to do, and what `demand-3` says of the same terms: after an accepted opening it leaves fresh books, and its sums are
 -- their totals.
-use mathlib.Core.Path.{_≡_, refl, ap, _∙_}
+use mathlib.Core.Path.{_≡_, ap, _∙_}
 use mathlib.Core.List.{List}
-use mathlib.Core.Bool.{Bool, false, true≢false}
-use Prim.Native.Nat.{ℕ, zero, suc, _+_, _^_, _<_}
+use mathlib.Core.Bool.{Bool, false}
+use Prim.Native.Nat.{ℕ, _+_, _^_, _<_}
 use native.Mathlib.Omega.{arith}
-use lib.ListN.{length, getD}
+use lib.ListN.{getD}
 use Rattle.robinx.specs.Season.{Instance, decode}
 use Rattle.robinx.specs.Books.{timetable, isHard, isSoft, total, freshTally}
-use Rattle.robinx.specs.Calls.{Buffers, buffers, Outcome, outcome, Call, unlessRefused, openFault, opened, openCall}
+use Rattle.robinx.specs.Calls.{Buffers, buffers, Outcome, outcome, Call, opened, openCall}
 use Rattle.robinx.specs.PlainSheet.{plainAfter}
 use Rattle.robinx.specs.declared.Constraint.{Constraint}
-use Rattle.robinx.proofs.Passed.{Passed, passed}
-use Rattle.robinx.proofs.Limits.{sound, decode-home, total-small}
-use Rattle.robinx.proofs.Accepted.{no-clash}
+use Rattle.robinx.proofs.Passed.{open-no-fault, opens-fresh, passed}
 use Rattle.robinx.proofs.Kept.{hard-held, soft-held}
-use Rattle.robinx.proofs.Demand3.{lengths, demand-3}
+use Rattle.robinx.proofs.Demand3.{totals-small, demand-3}
 use Rattle.replay.specs.declared.Played.{Played}
 use Rattle.replay.specs.Word.{word}
-use Rattle.replay.specs.Play.{last, Fresh, Replays, ReplaysFresh}
+use Rattle.replay.specs.Play.{Fresh, Replays, ReplaysFresh}
 use Rattle.replay.proofs.Words.{word-small}
-
--- an opening that is not declined has no fault
-accepts : (m : Instance) (b : Buffers) (f : ℕ) → unlessRefused f (opened m (b .sheet)) b .reply .declined ≡ false → f ≡ 0
-accepts m b zero d = refl
-accepts m b (suc f) d = absurd (true≢false d)
 
 -- fresh books hold totals below 2^60
 module _ (season plain : List ℕ) (o : Outcome) (f : Fresh season plain o) where
@@ -34,22 +27,12 @@ module _ (season plain : List ℕ) (o : Outcome) (f : Fresh season plain o) wher
   abbrev again : Buffers
   again = buffers plain (o .left .ledger) (o .left .tally)
 
-  no-fault : openFault season again ≡ 0
-  unfolding openCall
-  no-fault = accepts m again (openFault season again) (f .opens)
-
-  passes : Passed season plain (length (o .left .ledger)) (length (o .left .tally))
-  passes = passed season again no-fault
-
   tally-is : o .left .tally ≡ freshTally m plain
-  unfolding openCall opened
-  tally-is = f .tally ∙ rw no-fault
+  unfolding opened
+  tally-is = f .tally ∙ ap (λ (r : Outcome). r .left .tally) (opens-fresh season again (f .opens))
 
   low : (want : Constraint → Bool) → total want m (timetable m plain) < 2 ^ 60
-  low want =
-      let p = passes in
-      let free = no-clash m plain (lengths m _ _ _ (p .s7) .0) (p .s8) in
-      total-small m (sound m (p .s2) (p .s4) (p .s5)) (decode-home season (p .s3)) plain free want
+  low = totals-small season plain _ _ (passed season again (open-no-fault season again (f .opens)))
 
   pub hard-low : getD (o .left .tally) (m .C) 0 < 2 ^ 64
   hard-low = rw (tally-is, hard-held m plain) (omega (arith, low isHard))

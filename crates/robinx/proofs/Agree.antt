@@ -8,9 +8,11 @@ use lib.Dec.{ltb}
 use Rattle.robinx.specs.Sums.{sumTo, dist}
 use Rattle.robinx.specs.Season.{slotsOf}
 use Rattle.robinx.specs.Groups.{has, reaches}
-use Rattle.robinx.specs.Timetable.{X, side, homeSide, awaySide, anySide, firstModes, gamesWith, gamesIn, gamesAgainst, gamesUpTo, between, gamesBetween, plays, breakOn, breaksIn, meet}
+use Rattle.robinx.specs.Timetable.{X, side, homeSide, awaySide, anySide, firstModes}
+use Rattle.robinx.specs.Timetable.{gamesWith, gamesIn, gamesAgainst, gamesUpTo, between, gamesBetween, plays, breakOn, breaksIn, meet}
 use Rattle.robinx.specs.Kinds.{Kind, kindOf, formOf, formAt}
-use Rattle.robinx.specs.Deviations.{outside, offTarget, inRun, breaks, tooClose, devCA1, devCA2, devCA3, devCA4, devGA1, devBR1, devBR2, devFA1, devFA2, devSE1, deviationsOf, deviations}
+use Rattle.robinx.specs.Deviations.{outside, offTarget, inRun, breaks, tooClose, deviationsOf, deviations}
+use Rattle.robinx.specs.Deviations.{devCA1, devCA2, devCA3, devCA4, devGA1, devBR1, devBR2, devFA1, devFA2, devSE1}
 use Rattle.robinx.specs.Touch.{teamsTouch, slotTouches, scopeOf, scope}
 use Rattle.robinx.specs.declared.Constraint.{Constraint}
 use Rattle.robinx.proofs.Ext.{only-ext, sum-ext, each-ext, eachPair-ext, over-ext, worst-ext, has-reaches, lastWas-ext, lastSlot-ext}

@@ -13,7 +13,8 @@ use Rattle.robinx.specs.Season.{slotsOf, mostTeams, mostSlots, mostByte}
 use Rattle.robinx.specs.Groups.{has, size, isPair, pairs}
 use Rattle.robinx.specs.Timetable.{X, side, homeSide, awaySide, firstModes, gamesWith, gamesIn, gamesAgainst, gamesUpTo, between, gamesBetween, breakOn, breaksIn, meet}
 use Rattle.robinx.specs.Kinds.{Kind, kindOf, formAt}
-use Rattle.robinx.specs.Deviations.{each, eachPair, over, worst, offTarget, devCA1, devCA2, inRun, devCA3, devCA4, devGA1, breaks, devBR1, devBR2, devFA1, devFA2, tooClose, devSE1, deviationsOf, deviations, inShape, entries}
+use Rattle.robinx.specs.Deviations.{each, eachPair, over, worst, offTarget, inRun, breaks, tooClose, deviationsOf, deviations, inShape, entries}
+use Rattle.robinx.specs.Deviations.{devCA1, devCA2, devCA3, devCA4, devGA1, devBR1, devBR2, devFA1, devFA2, devSE1}
 use Rattle.robinx.specs.Penalty.{sum, sumOfSquares, largest, smallest, combine, penalty}
 use Rattle.robinx.specs.declared.Constraint.{Constraint}
 use Rattle.robinx.specs.declared.Shape.{Shape}

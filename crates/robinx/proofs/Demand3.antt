@@ -35,8 +35,14 @@ lengths m a b c h =
     let q = and-yes (eqb a (m .G)) (eqb b (allEntries m)) (p .0) in
     (eqb-true _ _ (q .0), eqb-true _ _ (q .1), eqb-true _ _ (p .1))
 
-module _ (season : List ℕ) (small : (plain : List ℕ) (L T : ℕ) → Passed season plain L T → (want : Constraint → Bool)
-    → total want (decode season) (timetable (decode season) plain) < 2 ^ 60) where
+-- the totals of a sheet that passes are small
+pub totals-small : (season plain : List ℕ) (L T : ℕ) → Passed season plain L T → (want : Constraint → Bool)
+    → total want (decode season) (timetable (decode season) plain) < 2 ^ 60
+totals-small season plain L T p want =
+    let m = decode season in
+    total-small m (sound m (p .s2) (p .s4) (p .s5)) (decode-home season (p .s3)) plain (no-clash m plain (lengths m _ _ _ (p .s7) .0) (p .s8)) want
+
+module _ (season : List ℕ) where
   abbrev m : Instance
   m = decode season
 
@@ -109,10 +115,10 @@ module _ (season : List ℕ) (small : (plain : List ℕ) (L T : ℕ) → Passed 
     good-call e = good m plain long (h .passes .s8) k e
 
     low : (want : Constraint → Bool) → total want m (timetable m plain) < 2 ^ 60
-    low = small plain (allEntries m) (m .C + 2) (h .passes)
+    low = totals-small season plain (allEntries m) (m .C + 2) (h .passes)
 
     low-again : f ≡ 0 → (want : Constraint → Bool) → total want m (timetable m (moved plain k)) < 2 ^ 60
-    low-again e = small (moved plain k) (allEntries m) (m .C + 2) (passes-again e)
+    low-again e = totals-small season (moved plain k) (allEntries m) (m .C + 2) (passes-again e)
 
     fresh : f ≡ 0 → result 0 ≡ freshAfter m plain k
     fresh e = books-fresh m plain k (good-call e) low (low-again e)
@@ -199,7 +205,7 @@ module _ (season : List ℕ) (small : (plain : List ℕ) (L T : ℕ) → Passed 
       ∙ adds d (λ s. total want m (timetable m s)) (λ plain o h k. total-change plain o h k d want (new plain k) none) sheet o h (pos 0) (+ℤ-idl _ ∙ e) ks
       ∙ ap pos (sym (rw (held-last sheet o h ks .books) (holds (plainAfter m sheet ks))))
 
-  pub proved : (b : Buffers) → openCall season b .reply .declined ≡ false → (calls : List Call)
+  proved : (b : Buffers) → openCall season b .reply .declined ≡ false → (calls : List Call)
       → Fresh season (b .sheet) (openCall season b)
       × AllRight season (b .sheet) (openCall season b) calls
       × Fresh season (plainAfter m (b .sheet) calls) (last season (openCall season b) calls)
@@ -220,12 +226,5 @@ module _ (season : List ℕ) (small : (plain : List ℕ) (L T : ℕ) → Passed 
         ),
       )
 
--- the totals of a sheet that passes are small
-small : (season plain : List ℕ) (L T : ℕ) → Passed season plain L T → (want : Constraint → Bool)
-    → total want (decode season) (timetable (decode season) plain) < 2 ^ 60
-small season plain L T p want =
-    let m = decode season in
-    total-small m (sound m (p .s2) (p .s4) (p .s5)) (decode-home season (p .s3)) plain (no-clash m plain (lengths m _ _ _ (p .s7) .0) (p .s8)) want
-
 pub demand-3 : Demand3
-demand-3 season b accepted calls = proved season (small season) b accepted calls
+demand-3 season b accepted calls = proved season b accepted calls

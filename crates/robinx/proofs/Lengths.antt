@@ -12,7 +12,8 @@ use Rattle.robinx.specs.Groups.{has, size, isPair, pairs}
 use Rattle.robinx.specs.Season.{Instance, slotsOf}
 use Rattle.robinx.specs.Timetable.{X, firstModes}
 use Rattle.robinx.specs.Kinds.{Kind, kindOf, formOf, formAt}
-use Rattle.robinx.specs.Deviations.{each, eachPair, devCA1, devCA2, devCA3, devCA4, devGA1, devBR1, devBR2, devFA1, devFA2, devSE1, deviationsOf, deviations, inShape, entries}
+use Rattle.robinx.specs.Deviations.{each, eachPair, deviationsOf, deviations, inShape, entries}
+use Rattle.robinx.specs.Deviations.{devCA1, devCA2, devCA3, devCA4, devGA1, devBR1, devBR2, devFA1, devFA2, devSE1}
 use Rattle.robinx.specs.Books.{timetable, deviationsAt, penaltyAt, entriesAt, startAt, allEntries, freshLedger, freshTally}
 use Rattle.robinx.specs.Calls.{stretchAt}
 use Rattle.robinx.specs.declared.Constraint.{Constraint}

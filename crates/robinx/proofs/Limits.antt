@@ -2,7 +2,7 @@
 use mathlib.Core.Path.{_≡_, subst}
 use mathlib.Core.Logic.{_≢_}
 use mathlib.Core.List.{List}
-use mathlib.Core.Bool.{Bool, true, false, _||_, not}
+use mathlib.Core.Bool.{Bool, true, false, _&&_, _||_, not}
 use Prim.Native.Nat.{ℕ, _+_, _*_, _-_, _^_, _<_, _≤_}
 use native.Mathlib.Omega.{arith}
 use lib.Dec.{leb}
@@ -28,6 +28,17 @@ use Rattle.robinx.proofs.Bounds.{entries-small, each-small, penalty-sma
 -- a number in its range
 pub fits-in : (low high v : ℕ) → fits low high v ≡ true → (low ≤ v) × (v ≤ high)
 fits-in low high v h = let b = and-yes (leb low v) (leb v high) h in (leb-true low v (b .0), leb-true v high (b .1))
+
+-- a season's sizes in their ranges
+pub sizes-in : (n P G C : ℕ) → not (fits 2 mostTeams n && fits 1 mostSlots P && leb G mostGames && leb C mostConstraints) ≡ false
+    → (2 ≤ n) × (n ≤ mostTeams) × (1 ≤ P) × (P ≤ mostSlots) × (G ≤ mostGames) × (C ≤ mostConstraints)
+sizes-in n P G C h =
+    let constraints = and-yes _ _ (not-false _ h) in
+    let games = and-yes _ _ (constraints .0) in
+    let slots = and-yes _ _ (games .0) in
+    let n-in = fits-in 2 mostTeams n (slots .0) in
+    let P-in = fits-in 1 mostSlots P (slots .1) in
+    (n-in .0, n-in .1, P-in .0, P-in .1, leb-true G mostGames (games .1), leb-true C mostConstraints (constraints .1))
 
 -- a field is at most its largest value, whatever the row asks
 pub holds-le : (f : Field) (kmax high v : ℕ) → holds f kmax high v ≡ true → v ≤ high
@@ -163,18 +174,14 @@ pub record Sound (m : Instance) : Type 0 where
 pub sound : (m : Instance) → sentence2 m ≡ false → sentence4 m ≡ false → sentence5 m ≡ false → Sound m
 unfolding sentence2 sentence4 sentence5
 sound m h2 h4 h5 =
-    let constraints = and-yes _ _ (not-false _ h2) in
-    let games = and-yes _ _ (constraints .0) in
-    let slots = and-yes _ _ (games .0) in
-    let teams-in = fits-in 2 mostTeams (m .n) (slots .0) in
-    let slots-in = fits-in 1 mostSlots (m .P) (slots .1) in
+    let sizes = sizes-in (m .n) (m .P) (m .G) (m .C) h2 in
     record {
-      teams-least = teams-in .0;
-      teams = teams-in .1;
-      slots-least = slots-in .0;
-      slots = slots-in .1;
-      games = leb-true (m .G) mostGames (games .1);
-      constraints = leb-true (m .C) mostConstraints (constraints .1);
+      teams-least = sizes .0;
+      teams = sizes .1;
+      slots-least = sizes .2;
+      slots = sizes .3;
+      games = sizes .4;
+      constraints = sizes .5;
       game = λ g l. good-game m g (any-none _ (m .G) h4 g l);
       constraint = λ c l. obeyed (m .n) (m .P) (m .constraint c) (not-false _ (any-none _ (m .C) h5 c l));
     }

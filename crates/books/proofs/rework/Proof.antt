@@ -6,22 +6,27 @@ use Rattle.books.proofs.Totalled.{answered}
 use Rattle.books.proofs.rework.Statement.{statement}
 use Rattle.books.proofs.rework.Tie as tie
 
+-- the entry, seen from where the walk has returned, and that, seen from where the totals are to be settled
+abbrev entry : tie.After-walk → tie.Start
+entry c = c .before .before .before .before .before .before
+
+abbrev walked : tie.After-settle-arg → tie.After-walk
+walked c = c .before .before .before .before .before
+
 walk-requires : tie.Need-walk-requires
 walk-requires c κs = search needs
 
 settle-requires : tie.Need-settle-requires
 settle-requires c κs =
-    let w = c .before .before .before .before .before in
-    let g = w .before .before .before .before .before .before .pre .0 in
-    omega (arith, all g, g .tally-length, w .walk .kept)
+    let g = entry (walked c) .pre .0 in
+    omega (arith, all g, g .tally-length, walked c .walk .kept)
 
 mul-verdict : tie.Need-mul-verdict
 mul-verdict c = search needs
 
 slice-read-verdict : tie.Need-slice-read-verdict
 slice-read-verdict c =
-    let w = c .before .before .before .before .before .before .before .before .before in
-    let g = w .before .before .before .before .before .before .pre .0 in
+    let g = entry (walked (c .before .before .before .before)) .pre .0 in
     omega (arith, all g, g .tally-length, c .before .before .tally2 .given)
 
 verdict-requires : tie.Need-verdict-requires
@@ -39,8 +44,8 @@ same-length-2 c = search needs
 returns : tie.Need-returns
 returns c =
     let s = c .before .before .before .before .before in
-    let w = s .before .before .before .before .before .before in
-    let g = w .before .before .before .before .before .before .pre .0 in
+    let w = walked (s .before) in
+    let g = entry w .pre .0 in
     let e = s .settle .ensures in
     answered (g .tally-length) (all g) (w .walk .ensures) (e .0) (e .1) (e .2) (rw (← c .before .verdict .ensures) (c .accepted .ensures))
 

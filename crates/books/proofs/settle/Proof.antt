@@ -36,11 +36,14 @@ same-length : tie.Need-same-length
 same-length c = search needs
 
 returns : tie.Need-returns
-returns c = let e = c .before .before .before .before .moved .ensures in (
-  c .before .before .before .before .before .before .before .before .change-of .ensures,
-  c .before .before .before .before .before .before .before .change-of2 .ensures,
-  rw (← ap (λ (t : Totals). t .hard) e, ← ap (λ (t : Totals). t .soft) e) (c .before .before .store .ensures),
-)
+returns c =
+    let m = c .before .before .before .before in
+    let e = m .moved .ensures in
+    let d = m .before .before .before in (
+      d .before .change-of .ensures,
+      d .change-of2 .ensures,
+      rw (← ap (λ (t : Totals). t .hard) e, ← ap (λ (t : Totals). t .soft) e) (c .before .before .store .ensures),
+    )
 
 pub settle-spec : {M : Type 1} → statement M
 settle-spec =

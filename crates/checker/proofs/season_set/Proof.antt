@@ -5,6 +5,16 @@ use Rattle.checker.proofs.Exported.{call-refused, call-passed}
 use Rattle.checker.proofs.season_set.Statement.{statement}
 use Rattle.checker.proofs.season_set.Tie as tie
 
+-- the call that is asked for, seen from where sentences 1 to 8 were tested, and where they all failed, seen from where the call is made
+abbrev entry : tie.After-admit-arg3 → tie.Start
+entry c = c .before .before .before .before .before .before .before
+
+abbrev asked : tie.After-admit → Call
+asked c = let a = entry (c .before .before .before .before) .args in Call.setSlot (a .game) (a .slot)
+
+abbrev admitted : tie.After-set-arg3 → tie.Else1
+admitted c = c .before .before .before .before .before .before
+
 admit-requires : tie.Need-admit-requires
 admit-requires c κs = search needs
 
@@ -23,11 +33,10 @@ same-length-3 c = search needs
 returns : tie.Need-returns
 returns c =
     let w = c .before .before .before in
-    let a = w .before .before .before .before .before .before .before .before .before .before .before .args in
-    call-refused (w .admit .ensures) (Call.setSlot (a .game) (a .slot)) (c .before .if1 .taken) (c .declined .ensures)
+    call-refused (w .admit .ensures) (asked w) (c .before .if1 .taken) (c .declined .ensures)
 
 set-requires : tie.Need-set-requires
-set-requires c κs = let i = c .before .before .before .before .before .before in i .before .before .admit .ensures .ready (i .if1 .left)
+set-requires c κs = let i = admitted c in i .before .before .admit .ensures .ready (i .if1 .left)
 
 same-length-4 : tie.Need-same-length-4
 same-length-4 c = search needs
@@ -41,10 +50,9 @@ same-length-6 c = search needs
 returns-2 : tie.Need-returns-2
 returns-2 c =
     let k = c .before .before .before .before .before .before in
-    let i = k .before .before .before .before .before .before .before in
+    let i = admitted (k .before) in
     let w = i .before .before in
-    let a = w .before .before .before .before .before .before .before .before .before .before .before .args in
-    call-passed (w .admit .ensures) (Call.setSlot (a .game) (a .slot)) (i .if1 .left) (k .set .ensures)
+    call-passed (w .admit .ensures) (asked w) (i .if1 .left) (k .set .ensures)
 
 pub season-set-spec : {M : Type 1} → statement M
 season-set-spec =

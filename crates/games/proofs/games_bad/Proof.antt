@@ -16,12 +16,15 @@ Inv-loop homes aways n counts₀ g₀ counts g = MeetingsCounted n homes aways c
 abbrev μ-loop : tie.MeasureT-loop
 μ-loop homes aways n counts₀ g₀ counts g = length homes - g
 
--- the function's entry and the loop's head, from the call in the loop
-abbrev start : tie.After-game-bad Inv-loop μ-loop → tie.Start Inv-loop μ-loop
-start c = c .before .before .before .before .before .before .before .before .before .before
+-- the turn's beginning, the loop's head and the function's entry, from the call in the loop
+abbrev inside : tie.After-game-bad Inv-loop μ-loop → tie.In-loop Inv-loop μ-loop
+inside c = c .before .before .before .before .before .before
 
 abbrev turn : tie.After-game-bad Inv-loop μ-loop → tie.At-loop Inv-loop μ-loop
-turn c = c .before .before .before .before .before .before .before
+turn c = inside c .before
+
+abbrev start : tie.After-game-bad Inv-loop μ-loop → tie.Start Inv-loop μ-loop
+start c = turn c .before .before .before
 
 -- the call's answer is the test of game g
 tested : (c : tie.After-game-bad Inv-loop μ-loop)
@@ -54,7 +57,7 @@ game-bad-requires c κs = search needs
 returns : tie.Need-returns Inv-loop μ-loop
 returns c =
     let d = c .before in
-    sym (counted-bad (start d .pre .1) (turn d .loop .inv .0) (c .before .before .before .before .before .before .before .loop-test .taken) (tested d ∙ c .if1 .taken))
+    sym (counted-bad (start d .pre .1) (turn d .loop .inv .0) (inside d .loop-test .taken) (tested d ∙ c .if1 .taken))
 
 add-g : tie.Need-add-g Inv-loop μ-loop
 add-g c = search needs
@@ -65,15 +68,16 @@ loop-less c = search needs
 loop-again : tie.Need-loop-again Inv-loop μ-loop
 loop-again c =
     let d = c .before in (
-      rw (d .game-bad .ensures .1 (c .if1 .left), c .before .before .before .before .wide .ensures .0, c .before .before .wide2 .ensures .0)
+      rw (d .game-bad .ensures .1 (c .if1 .left), d .before .before .before .wide .ensures .0, d .before .wide2 .ensures .0)
           (counted-more (start d .pre .1) (turn d .loop .inv .0) (tested d ∙ c .if1 .left)),
       omega arith,
     )
 
 returns-2 : tie.Need-returns-2 Inv-loop μ-loop
 returns-2 c =
-    let e : c .before .loop .g ≡ length (now (c .before .before .before .before .args .homes)) = omega arith in
-    sym (counted-good (c .before .before .before .before .pre .1) (rw e at (c .before .loop .inv .0)))
+    let s = c .before .before .before .before in
+    let e : c .before .loop .g ≡ length (now (s .args .homes)) = omega arith in
+    sym (counted-good (s .pre .1) (rw e at (c .before .loop .inv .0)))
 
 pub games-bad-spec : {M : Type 1} → statement M
 games-bad-spec =

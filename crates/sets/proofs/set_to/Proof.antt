@@ -10,9 +10,14 @@ use Rattle.robinx.specs.Calls.{Call, moved}
 use Rattle.robinx.proofs.Sums.{only-le}
 use Rattle.touch.proofs.Asked.{none-possible}
 use Rattle.calls.proofs.Outcomes.{set-touched}
-use Rattle.calls.proofs.Accept.{range-most, as-many-games, as-many-guests, as-many-slots, is-measured, few-slots, counted, few-unplaced, slot-possible, move-possible, set-fault-13, set-no-fault, given-after, call-is, unplaced-after-set}
+use Rattle.calls.proofs.Accept.{range-most, as-many-games, as-many-guests, as-many-slots, is-measured, few-slots, counted, few-unplaced}
+use Rattle.calls.proofs.Accept.{slot-possible, move-possible, set-fault-13, set-no-fault, given-after, call-is, unplaced-after-set}
 use Rattle.sets.proofs.set_to.Statement.{statement}
 use Rattle.sets.proofs.set_to.Tie as tie
+
+-- the entry, seen from where both lists of teams are read
+abbrev entry : tie.After-aways → tie.Start
+entry c = c .before .before .before .before .before .before
 
 homes-requires : tie.Need-homes-requires
 homes-requires c κs = is-measured (c .before .before .before .before .pre .0)
@@ -21,13 +26,13 @@ aways-requires : tie.Need-aways-requires
 aways-requires c κs = is-measured (c .before .before .before .before .before .pre .0)
 
 slice-read-from : tie.Need-slice-read-from
-slice-read-from c = omega (arith, as-many-slots (c .before .before .before .before .before .before .before .pre .0))
+slice-read-from c = omega (arith, as-many-slots (entry (c .before) .pre .0))
 
 reslot-requires : tie.Need-reslot-requires
 unfolding decode
 reslot-requires c κs =
     let n = c .before .before .before .before .before in
-    let r = n .before .before .before .before .before .before .pre .0 in
+    let r = entry n .pre .0 in
     rw (n .before .homes .ensures, n .aways .ensures) (range-most r, r .tables, omega (arith, as-many-games r), omega (arith, few-slots r))
 
 move-of-requires : tie.Need-move-of-requires
@@ -35,7 +40,7 @@ unfolding decode
 move-of-requires c κs =
     let t = c .before in
     let n = t .before .before .before .before .before .before in
-    let r = n .before .before .before .before .before .before .pre .0 in
+    let r = entry n .pre .0 in
     rw (n .before .homes .ensures, n .aways .ensures) (omega (arith, as-many-games r), omega (arith, as-many-guests r))
 
 no-slot-requires : tie.Need-no-slot-requires
@@ -45,7 +50,7 @@ sub-left : tie.Need-sub-left
 sub-left c =
     let t = c .before .before .before in
     let n = t .before .before .before .before .before .before in
-    let p = n .before .before .before .before .before .before .pre in
+    let p = entry n .pre in
     omega (arith, c .no-slot .ensures, counted (p .0) (p .1))
 
 no-slot-requires-2 : tie.Need-no-slot-requires-2
@@ -55,14 +60,14 @@ add-left : tie.Need-add-left
 add-left c =
     let t = c .before .before .before .before in
     let n = t .before .before .before .before .before .before in
-    let s = n .before .before .before .before .before .before in
+    let s = entry n in
     omega (arith, c .no-slot2 .ensures, few-unplaced (s .pre .0), only-le (eqb (s .args .b) 0) 1)
 
 slice-write-sheet : tie.Need-slice-write-sheet
 slice-write-sheet c =
     let t = c .before .before .before .before in
     let n = t .before .before .before .before .before .before in
-    omega (arith, as-many-slots (n .before .before .before .before .before .before .pre .0))
+    omega (arith, as-many-slots (entry n .pre .0))
 
 no-move-requires : tie.Need-no-move-requires
 no-move-requires c κs = search needs
@@ -72,8 +77,8 @@ unfolding decode
 moves-requires c κs =
     let t = c .before .before .before .before .before in
     let n = t .before .before .before .before .before .before in
-    let a = n .before .before .before .before .before .before .args in
-    let p = n .before .before .before .before .before .before .pre in (
+    let a = entry n .args in
+    let p = entry n .pre in (
       move-possible (p .0) (a .g) _ (a .b) (rw (n .before .homes .ensures, n .aways .ensures) at (c .before .before .before .move-of .ensures)) (p .1)
           (slot-possible (p .0) (p .1))
           (omega (arith, few-slots (p .0))),
@@ -83,14 +88,15 @@ moves-requires c κs =
 rework-requires : tie.Need-rework-requires
 unfolding decode moved
 rework-requires c κs =
-    let t = c .before .before .before .before .before .before .before .before .before .before .before in
+    let m = c .before .before .before .before .before in
+    let d = m .before .before .before .before in
+    let t = d .before .before in
     let n = t .before .before .before .before .before .before in
-    let a = n .before .before .before .before .before .before .args in
-    let p = n .before .before .before .before .before .before .pre in
-    let went = c .before .before .before .before .before .before .before .before .before .before .if1 .taken in
-    let f = rw (went, n .before .homes .ensures, n .aways .ensures) at (t .reslot .ensures) in
+    let a = entry n .args in
+    let p = entry n .pre in
+    let f = rw (d .before .if1 .taken, n .before .homes .ensures, n .aways .ensures) at (t .reslot .ensures) in
     let e = set-no-fault (decode (now (a .season))) (now (a .sheet)) (a .g) (a .b) (p .1) (p .2) (not-true _ (sym (f .no-clash))) in
-    (given-after (p .0) (Call.setSlot (a .g) (a .b)) e f, c .before .before .before .before .before .moves .ensures .3)
+    (given-after (p .0) (Call.setSlot (a .g) (a .b)) e f, m .moves .ensures .3)
 
 same-length : tie.Need-same-length
 same-length c = search needs
@@ -104,15 +110,16 @@ same-length-3 c = search needs
 returns : tie.Need-returns
 unfolding decode moved
 returns c =
-    let m = c .before .before .before .before .before .before .before .before .before .before in
+    let w = c .before .before .before .before in
+    let m = w .before .before .before .before .before .before in
     let d = m .before .before .before .before in
     let t = d .before .before in
     let n = t .before .before .before .before .before .before in
-    let a = n .before .before .before .before .before .before .args in
-    let p = n .before .before .before .before .before .before .pre in
+    let a = entry n .args in
+    let p = entry n .pre in
     let f = rw (d .before .if1 .taken, n .before .homes .ensures, n .aways .ensures) at (t .reslot .ensures) in
     let e = set-no-fault (decode (now (a .season))) (now (a .sheet)) (a .g) (a .b) (p .1) (p .2) (not-true _ (sym (f .no-clash))) in
-    call-is (p .0) (Call.setSlot (a .g) (a .b)) e f (c .before .before .before .before .rework .ensures)
+    call-is (p .0) (Call.setSlot (a .g) (a .b)) e f (w .rework .ensures)
     (set-touched (decode (now (a .season))) (now (a .sheet)) (m .moves .result) (m .moves .ensures) (a .g) (a .b)
     (rw (n .before .homes .ensures, n .aways .ensures) at (d .move-of .ensures))
     (m .before .no-move .ensures))
@@ -132,8 +139,8 @@ unfolding decode
 returns-2 c =
     let t = c .before .before in
     let n = t .before .before .before .before .before .before in
-    let a = n .before .before .before .before .before .before .args in
-    let p = n .before .before .before .before .before .before .pre in
+    let a = entry n .args in
+    let p = entry n .pre in
     let f = rw (c .before .if1 .left, n .before .homes .ensures, n .aways .ensures) at (t .reslot .ensures) in
     rw (c .declined .ensures, set-fault-13 (decode (now (a .season))) (now (a .sheet)) (a .g) (a .b) (p .1) (p .2) (not-false _ (sym (f .no-clash))))
 

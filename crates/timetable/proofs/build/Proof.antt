@@ -18,6 +18,13 @@ Inv-loop homes aways sheet p home₀ away₀ meets₀ unplaced₀ g₀ home away
 abbrev μ-loop : tie.MeasureT-loop
 μ-loop homes aways sheet p home₀ away₀ meets₀ unplaced₀ g₀ home away meets unplaced g = length homes - g
 
+-- the entry, seen from where a turn begins, and that, seen from where the game is put
+abbrev entry : tie.In-loop Inv-loop μ-loop → tie.Start Inv-loop μ-loop
+entry c = c .before .before .before .before .before
+
+abbrev turn : tie.After-put-arg3 Inv-loop μ-loop → tie.In-loop Inv-loop μ-loop
+turn c = c .before .before .before .before .before
+
 loop-holds : tie.Need-loop-holds Inv-loop μ-loop
 loop-holds c =
     let pre = c .before .before .before .pre in
@@ -34,22 +41,20 @@ unfit-requires c κs = search needs
 
 returns : tie.Need-returns Inv-loop μ-loop
 returns c =
-    let turn = c .before .before .before in
-    ends-above (turn .before .before .before .before .before .pre .1) (turn .before .loop .g) (turn .loop-test .taken) (c .before .if1 .taken) (c .unfit .ensures)
+    let t = c .before .before .before in
+    ends-above (entry t .pre .1) (t .before .loop .g) (t .loop-test .taken) (c .before .if1 .taken) (c .unfit .ensures)
 
 put-requires : tie.Need-put-requires Inv-loop μ-loop
-put-requires c κs =
-    let turn = c .before .before .before .before .before in
-    (turn .before .before .before .before .before .pre .0, turn .loop-test .taken, omega arith)
+put-requires c κs = (entry (turn c) .pre .0, turn c .loop-test .taken, omega arith)
 
 unfit-requires-2 : tie.Need-unfit-requires-2 Inv-loop μ-loop
 unfit-requires-2 c κs = search needs
 
 returns-2 : tie.Need-returns-2 Inv-loop μ-loop
 returns-2 c =
-    let turn = c .before .before .before .before .before .before .before .before in
-    let pre = turn .before .before .before .before .before .pre in
-    ends-busy (pre .1) (turn .before .loop .inv) (turn .loop-test .taken) (pre .2) (omega arith)
+    let t = turn (c .before .before .before) in
+    let pre = entry t .pre in
+    ends-busy (pre .1) (t .before .loop .inv) (t .loop-test .taken) (pre .2) (omega arith)
     (c .before .before .put .ensures) (not-true _ (c .before .if2 .taken)) (c .unfit2 .ensures)
 
 no-slot-requires : tie.Need-no-slot-requires Inv-loop μ-loop
@@ -57,8 +62,9 @@ no-slot-requires c κs = search needs
 
 add-unplaced : tie.Need-add-unplaced Inv-loop μ-loop
 add-unplaced c =
-    let l = c .before .before .before .before .before .before .before .before .before in
-    let s = now (l .before .before .before .before .args .sheet) in
+    let t = turn (c .before .before .before) in
+    let l = t .before in
+    let s = now (entry t .args .sheet) in
     omega (arith, unplaced-next s (l .loop .g) (l .loop .inv .count) (c .no-slot .ensures), unplaced-low s (l .loop .g + 1))
 
 add-g : tie.Need-add-g Inv-loop μ-loop
@@ -69,9 +75,9 @@ loop-less c = search needs
 
 loop-again : tie.Need-loop-again Inv-loop μ-loop
 loop-again c =
-    let turn = c .before .before .before .before .before .before .before .before in
-    let pre = turn .before .before .before .before .before .pre in
-    next-turn (pre .1) (turn .before .loop .inv) (turn .loop-test .taken) (pre .2) (omega arith)
+    let t = turn (c .before .before .before) in
+    let pre = entry t .pre in
+    next-turn (pre .1) (t .before .loop .inv) (t .loop-test .taken) (pre .2) (omega arith)
     (c .before .before .put .ensures) (not-false _ (c .before .if2 .left)) (c .no-slot .ensures)
 
 returns-3 : tie.Need-returns-3 Inv-loop μ-loop

@@ -11,18 +11,18 @@ shared-slice-read-a c = search needs
 shared-slice-read-b : tie.Need-shared-slice-read-b
 shared-slice-read-b c = search needs
 
--- the entry, seen from where game g is taken out, where h is, and where g is put
-abbrev entry : tie.After-take-out-arg3 → tie.Start
-entry c = c .before .before .before .before .before .before .before .before
+-- the entry, seen from before game g is taken out, from where h is, and from where g is put
+abbrev entry : tie.After-take-out-arg2 → tie.Start
+entry c = c .before .before .before .before .before .before .before
 
 abbrev entry-2 : tie.After-take-out-arg6 → tie.Start
-entry-2 c = entry (c .before .before .before .before)
+entry-2 c = entry (c .before .before .before .before .before)
 
 abbrev entry-3 : tie.After-put-arg3 → tie.Start
 entry-3 c = entry-2 (c .before .before .before .before)
 
 take-out-requires : tie.Need-take-out-requires
-take-out-requires c κs = let pre = entry c .pre in (pre .0 .teams, pre .2, pre .0 .slot-low _ (pre .2))
+take-out-requires c κs = let pre = entry (c .before) .pre in (pre .0 .teams, pre .2, pre .0 .slot-low _ (pre .2))
 
 take-out-requires-2 : tie.Need-take-out-requires-2
 take-out-requires-2 c κs = let pre = entry-2 c .pre in (pre .0 .teams, pre .3, pre .0 .slot-low _ (pre .3))
@@ -43,7 +43,7 @@ returns c =
     let placed = c .before .before .before .before .before in
     let lifted-2 = placed .before .before .before .before in
     let lifted = lifted-2 .before .before .before .before in
-    let pre = entry (lifted .before) .pre in
+    let pre = entry (lifted .before .before) .pre in
     fits-swapped (pre .0) _ _ (pre .2) (pre .3) (pre .4) (pre .1)
     (lifted .take-out .ensures)
     (lifted-2 .take-out2 .ensures)

@@ -9,17 +9,21 @@ use Rattle.timetable.proofs.take_out.Tie as tie
 returns : tie.Need-returns
 returns c = rw (c .if1 .taken)
 
+-- the entry, seen from where the game's teams are read
+abbrev entry : tie.After-shared-slice-known3 → tie.Start
+entry c = c .before .before .before .before .before .before .before
+
 shared-slice-read-lift : tie.Need-shared-slice-read-lift
 shared-slice-read-lift c = search needs
 
 cast-lift : tie.Need-cast-lift
-cast-lift c = let pre = c .before .before .before .before .before .before .before .pre in omega (arith, pre .0 .home-below _ (pre .1))
+cast-lift c = let pre = entry c .pre in omega (arith, pre .0 .home-below _ (pre .1))
 
 shared-slice-read-lift-2 : tie.Need-shared-slice-read-lift-2
 shared-slice-read-lift-2 c = search needs
 
 cast-lift-2 : tie.Need-cast-lift-2
-cast-lift-2 c = let pre = c .before .before .before .before .before .before .before .before .pre in omega (arith, pre .0 .away-below _ (pre .1))
+cast-lift-2 c = let pre = entry (c .before) .pre in omega (arith, pre .0 .away-below _ (pre .1))
 
 sub-lift : tie.Need-sub-lift
 sub-lift c = search needs
@@ -29,12 +33,12 @@ cast-lift-3 c = search needs
 
 lift-requires : tie.Need-lift-requires
 lift-requires c κs =
-    let pre = c .before .before .before .before .before .before .before .before .pre in
+    let pre = entry (c .before) .pre in
     (pre .0 .home-below _ (pre .1), pre .0 .away-below _ (pre .1), search needs)
 
 returns-2 : tie.Need-returns-2
 returns-2 c =
-    let b = c .before .before .before .before .before .before .before .before .before .args .b in
+    let b = entry (c .before .before) .args .b in
     let e : suc (b - 1) ≡ b = omega arith in rw (← e) (c .lift .ensures)
 
 pub take-out-spec : {M : Type 1} → statement M
