@@ -81,8 +81,8 @@ target/console: examples/console.c include/season_checker.h $(LIBRARY)
 
 text: $(LIBRARY)
 	@mkdir -p target
-	CARGO_TARGET_DIR=target/cargo cargo build --release --offline --quiet --manifest-path host/Cargo.toml --package season-text
-	@cmp -s target/cargo/release/season-text target/season-text || cp target/cargo/release/season-text target/season-text
+	CARGO_TARGET_DIR=target/cargo cargo build --profile checked --offline --quiet --manifest-path host/Cargo.toml --package season-text
+	@cmp -s target/cargo/checked/season-text target/season-text || cp target/cargo/checked/season-text target/season-text
 
 host-test: all report
 	host/test.sh
