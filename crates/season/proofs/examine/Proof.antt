@@ -95,7 +95,8 @@ returns-5 : tie.Need-returns-5
 returns-5 c =
     let d = c .before .before .before in
     let e = d .before .before in
-    fault-5 (season-3 d) (false-1 (e .before .before .before)) (false-2 e) (false-3 d) (sym (c .before .before .meetings-bad .ensures) ∙ c .before .if4 .left) (c .examine-constraints .ensures)
+    let false-4 = sym (c .before .before .meetings-bad .ensures) ∙ c .before .if4 .left in
+    fault-5 (season-3 d) (false-1 (e .before .before .before)) (false-2 e) (false-3 d) false-4 (c .examine-constraints .ensures)
 
 pub examine-spec : {M : Type 1} → statement M
 examine-spec =
