@@ -1,12 +1,11 @@
 -- What the three calls leave is what their definitions say, once sentences 1 to 8 are passed.
-use mathlib.Core.Path.{_≡_, refl, sym, ap, _∙_}
-use mathlib.Core.List.{List, [], _∷_, _++_}
-use mathlib.Core.Bool.{Bool, true, false, cond, _&&_, _||_, or-false}
-use Prim.Native.Nat.{ℕ, zero, suc, _+_, _-_, _%_, _^_, _<_, _≤_}
+use mathlib.Core.Path.{_≡_, ap, _∙_}
+use mathlib.Core.List.{List}
+use mathlib.Core.Bool.{Bool, false, cond, _&&_, or-false}
+use Prim.Native.Nat.{ℕ, _+_, _-_, _%_, _^_, _<_}
 use native.Mathlib.Omega.{arith}
-use lib.Dec.{eqb, ltb}
-use lib.IntN.{ℤ, pos}
-use lib.ListN.{length, getD, set}
+use lib.IntN.{pos}
+use lib.ListN.{length, getD}
 use borrow.Author.Tests.{lt-ltb}
 use mir.Syntax.{w64}
 use mir.Val.{toZ}
@@ -14,13 +13,14 @@ use Rattle.robinx.specs.Sums.{sumTo, catTo, listTo, only}
 use Rattle.robinx.specs.Season.{Instance, decode}
 use Rattle.robinx.specs.Timetable.{X}
 use Rattle.robinx.specs.Penalty.{penalty}
-use Rattle.robinx.specs.Books.{timetable, deviationsAt, penaltyAt, isHard, isSoft, total, freshLedger, freshTally, verdict}
+use Rattle.robinx.specs.Books.{timetable, deviationsAt, penaltyAt, isHard, isSoft, total, freshLedger, freshTally}
 use Rattle.robinx.specs.Calls.{Buffers, buffers, outcome, opened, Call, moved, touched, stretchAt, gained, lost, reworkedStretch, reworkedPenalty, change, reworked}
 use Rattle.robinx.specs.Touch.{touches}
 use Rattle.robinx.specs.declared.Constraint.{Constraint}
 use Rattle.robinx.specs.declared.Season.{Season}
 use Rattle.robinx.specs.declared.Reply.{Reply}
 use Rattle.robinx.proofs.Passed.{Passed, passed}
+use Rattle.robinx.proofs.Demand3.{totals-small}
 use Rattle.season.proofs.Found.{measured}
 use Rattle.tables.specs.Tables.{Tables, xOf}
 use Rattle.timetable.specs.OfSheet.{unplaced}
@@ -31,7 +31,7 @@ use Rattle.touch.specs.declared.Move.{Move}
 use Rattle.walk.specs.declared.Touch.{Touch}
 use Rattle.admission.specs.Admission.{Ready}
 use Rattle.calls.specs.Moves.{moveOf}
-use Rattle.calls.proofs.Shown.{whole, totals-small, tied, same-deviations, verdict-is}
+use Rattle.calls.proofs.Shown.{whole, tied, same-deviations, verdict-is}
 
 -- the sentences that a call has passed
 abbrev pub Clean : List ℕ → Buffers → Type 0

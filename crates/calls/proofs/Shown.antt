@@ -1,25 +1,19 @@
 -- What the tables of a sheet give: figures worked out from them are the figures of the sheet.
-use mathlib.Core.Path.{_≡_, refl, sym, ap, _∙_}
-use mathlib.Core.List.{List, _++_}
-use mathlib.Core.Bool.{Bool, true, false, cond, _||_}
-use Prim.Native.Nat.{ℕ, _+_, _^_, _<_, _≤_}
+use mathlib.Core.Path.{_≡_, refl, sym, _∙_}
+use mathlib.Core.List.{List}
+use mathlib.Core.Bool.{true, cond}
+use Prim.Native.Nat.{ℕ, _+_}
 use native.Mathlib.Omega.{arith}
 use lib.Dec.{eqb, ltb}
 use lib.ListN.{length, getD}
-use Rattle.robinx.specs.Sums.{anyTo, sumTo, only}
 use Rattle.robinx.specs.Season.{Instance, decode, mostTeams}
-use Rattle.robinx.specs.Timetable.{X}
-use Rattle.robinx.specs.Books.{timetable, deviationsAt, allEntries, verdict, total, isHard, isSoft}
-use Rattle.robinx.specs.Calls.{change}
-use Rattle.robinx.specs.declared.Constraint.{Constraint}
+use Rattle.robinx.specs.Books.{timetable, deviationsAt, allEntries, verdict}
 use Rattle.robinx.proofs.Sums.{any-is-sum}
 use Rattle.robinx.proofs.Agree.{agreement}
-use Rattle.robinx.proofs.Passed.{Passed, all-passed}
-use Rattle.robinx.proofs.Accepted.{low, no-clash}
-use Rattle.robinx.proofs.Limits.{Sound, sound, decode-home, decode-away, total-small}
+use Rattle.robinx.proofs.Passed.{Passed}
+use Rattle.robinx.proofs.Accepted.{low}
+use Rattle.robinx.proofs.Limits.{Sound, sound, decode-home, decode-away}
 use Rattle.robinx.proofs.Demand3.{lengths}
-use Rattle.reader.specs.Sizes.{sizesOf, Measured}
-use Rattle.season.proofs.Found.{measured}
 use Rattle.tables.specs.Tables.{Tables, xOf, Tied}
 use Rattle.timetable.specs.OfSheet.{Shows, InRange, Fits, unplaced}
 use Rattle.timetable.proofs.Fewer.{shows-for}
@@ -48,9 +42,6 @@ module _ (s sheet : List ℕ) (L T : ℕ) (p : Passed s sheet L T) where
         sheet-length = whole .0 ∙ sym h;
         slot-low = λ g l. omega (arith, low m sheet (whole .0) (p .s8) g (rw h at l), is-sound .slots);
       }
-
-  pub totals-small : (want : Constraint → Bool) → total want m (timetable m sheet) < 2 ^ 60
-  totals-small = total-small m is-sound (decode-home s (p .s3)) sheet (no-clash m sheet (whole .0) (p .s8))
 
   module _ {t : Tables} (fits : Fits mostTeams true t (m .home) (m .away) sheet) where
     shown : Shows (m .n) t (m .home) (m .away) sheet

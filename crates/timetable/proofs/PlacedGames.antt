@@ -27,12 +27,6 @@ module _ {n : ℕ} {t : Tables} {homes aways sheet : List ℕ} (range : InRange 
     abbrev j : ℕ
     j = getD aways g 0
 
-    li : i < n
-    li = range .teams .home-below g low
-
-    lj : j < n
-    lj = range .teams .away-below g low
-
     met : 1 ≤ meetings homes aways sheet i j k
     unfolding meetings isAt
     met =
@@ -41,15 +35,15 @@ module _ {n : ℕ} {t : Tables} {homes aways sheet : List ℕ} (range : InRange 
         omega (arith, term-le-sum (λ h. only (isAt homes aways sheet i j k h) 1) g (length homes) low)
 
     pub game-meets : bit (getD (t .meets) (cell (getD homes g 0) (getD aways g 0)) 0) k ≡ 1
-    game-meets = omega (arith, met, shows .x i j k li lj lk, bit-lt (getD (t .meets) (cell i j) 0) k)
+    game-meets = omega (arith, met, shows .x i j k (range .teams .home-below g low) (range .teams .away-below g low) lk, bit-lt (getD (t .meets) (cell i j) 0) k)
 
     pub game-home : bit (getD (t .home) (getD homes g 0) 0) k ≡ 1
     game-home =
         omega (
           arith,
           game-meets,
-          shows .tied .home-row i k li lk,
-          term-le-sum (λ q. xOf (t .meets) i q k) j n lj,
+          shows .tied .home-row i k (range .teams .home-below g low) lk,
+          term-le-sum (λ q. xOf (t .meets) i q k) j n (range .teams .away-below g low),
           bit-lt (getD (t .home) i 0) k,
         )
 
@@ -58,8 +52,8 @@ module _ {n : ℕ} {t : Tables} {homes aways sheet : List ℕ} (range : InRange 
         omega (
           arith,
           game-meets,
-          shows .tied .away-row j k lj lk,
-          term-le-sum (λ p. xOf (t .meets) p j k) i n li,
+          shows .tied .away-row j k (range .teams .away-below g low) lk,
+          term-le-sum (λ p. xOf (t .meets) p j k) i n (range .teams .home-below g low),
           bit-lt (getD (t .away) j 0) k,
         )
 
