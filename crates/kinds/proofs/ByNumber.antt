@@ -1,13 +1,8 @@
--- The form and the rules by a kind's number, and by a number that is no kind.
+-- The form by a kind's number, and by a number that is no kind.
 use mathlib.Core.Path.{_≡_, sym, ap, _∙_}
-use mathlib.Core.Bool.{Bool, false}
 use Prim.Native.Nat.{ℕ}
-use Rattle.robinx.specs.Kinds.{Kind, formOf, asksAt, formAt}
-use Rattle.robinx.specs.Rules.{keeps, obeys}
-use Rattle.robinx.specs.declared.Constraint.{Constraint}
+use Rattle.robinx.specs.Kinds.{Kind, formOf, formAt}
 use Rattle.robinx.specs.declared.Form.{Form}
-use Rattle.robinx.proofs.Sums.{never}
-use Rattle.robinx.proofs.Limits.{obeyed, known}
 use Rattle.robinx.proofs.Unknown.{NoKind, unknown-kind}
 
 pub form-at : (k : ℕ) {kind : ℕ} {r : Form} → kind ≡ k → r ≡ formAt k → r ≡ formAt kind
@@ -16,13 +11,3 @@ form-at k e h = h ∙ ap formAt (sym e)
 pub form-of-none : (k : ℕ) → NoKind k → formOf Kind.unknown ≡ formAt k
 unfolding formAt
 form-of-none k h = rw (unknown-kind k h)
-
-module _ (n P : ℕ) (c : Constraint) where
-  -- at a kind the rules are those of its row
-  pub asked-at : (k : ℕ) {r : Bool} → c .kind ≡ k → r ≡ keeps (asksAt k) n P c → r ≡ obeys n P c
-  unfolding obeys
-  asked-at k e h = h ∙ ap (λ (kind : ℕ). keeps (asksAt kind) n P c) (sym e)
-
-  -- a constraint that keeps the rules is of a known kind
-  pub asked-none : NoKind (c .kind) → false ≡ obeys n P c
-  asked-none h = sym (never (obeys n P c) (λ o. known (obeyed n P c o) (unknown-kind (c .kind) h)))

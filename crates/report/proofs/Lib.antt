@@ -1,4 +1,2 @@
-pub mod Cut
-pub mod Sixth
-pub mod Answered
 pub mod Written
+pub mod RowsReported

@@ -15,7 +15,8 @@ use Rattle.robinx.specs.declared.Season.{Season}
 use Rattle.robinx.proofs.Lengths.{list-at, list-beyond}
 use Rattle.reader.specs.Sizes.{sizesOf}
 use Rattle.reader.proofs.Read.{constraints-read}
-use Rattle.report.specs.ReportRows.{flat, Written, TallyOf, penaltyOf, brokenOf, rowsOf}
+use Rattle.report_reply.specs.ReportReply.{TallyOf}
+use Rattle.report.specs.ReportRows.{flat, Written, penaltyOf, brokenOf, rowsOf}
 
 flat-append : (a b : List (List ℕ)) → flat (a ++ b) ≡ flat a ++ flat b
 unfolding flat

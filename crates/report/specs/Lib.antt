@@ -1,2 +1,1 @@
-pub mod ReportReply
 pub mod ReportRows

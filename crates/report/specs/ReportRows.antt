@@ -1,10 +1,10 @@
 -- The rows of a report as words, three a row and one row after the other.
 use mathlib.Core.Path.{_≡_}
 use mathlib.Core.List.{List, [], _∷_, _++_}
-use Prim.Native.Nat.{ℕ, _+_, _*_, _≤_}
+use Prim.Native.Nat.{ℕ, _*_, _≤_}
 use lib.ListN.{length, take}
 use Rattle.robinx.specs.Season.{decode}
-use Rattle.robinx.specs.Books.{timetable, penaltyAt, total, isHard, isSoft, freshTally}
+use Rattle.robinx.specs.Books.{timetable, penaltyAt, total, isHard, isSoft}
 use Rattle.robinx.specs.Report.{brokenRows, reportFault, reportRows}
 use Rattle.report.specs.declared.Report.{Report}
 
@@ -17,10 +17,6 @@ pub record Written (rows : List (List ℕ)) (k : ℕ) (words : List ℕ) : Type 
   pub count : k ≡ length rows
   pub room : 3 * k ≤ length words
   pub front : take (3 * k) words ≡ flat rows
-
--- the tally begins with the penalties and totals of a sheet
-abbrev pub TallyOf : List ℕ → List ℕ → List ℕ → Type 0
-TallyOf season sheet tally = take (decode season .C + 2) tally ≡ freshTally (decode season) sheet
 
 -- on a sheet: the penalty of constraint c, and the rows of the broken constraints below c
 abbrev pub penaltyOf : List ℕ → List ℕ → ℕ → ℕ

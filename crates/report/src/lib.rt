@@ -2,77 +2,16 @@
 ghost use mathlib.Core.Path.{_≡_};
 ghost use mathlib.Core.List.{List, _∷_, [], _++_};
 ghost use Prim.Native.Nat.{ℕ, _+_, _*_, _≤_, _<_};
-ghost use lib.ListN.{length, take, drop};
-ghost use Rattle.robinx.specs.Season.{mostConstraints, mostDeviations};
-ghost use Rattle.robinx.specs.Report.{seasonOf, sheetOf, reportFault};
+ghost use lib.ListN.{length};
+ghost use Rattle.robinx.specs.Season.{mostConstraints};
 ghost use Rattle.robinx.specs.Refusals.{firstTrue, ofSeason};
 ghost use Rattle.reader.specs.Sizes.{Measured};
-ghost use Rattle.season.specs.Examination.{Examination};
-ghost use Rattle.report.specs.ReportReply.{upToSix, reportReply};
-ghost use Rattle.report.specs.ReportRows.{Written, TallyOf, penaltyOf, brokenOf, rowsOf, Reported};
-use robinx::Reply;
+ghost use Rattle.report_reply.specs.ReportReply.{TallyOf};
+ghost use Rattle.report.specs.ReportRows.{Written, penaltyOf, brokenOf, rowsOf, Reported};
 use robinx::Season;
-use season::Examined;
-
-// Where the season ends and the sheet begins.
-fn season_end(input: &[u8]) -> usize
-    ensures { λ r. ⌜ (r ≤ length (now (input .entry))) × (take r (now (input .entry)) ≡ seasonOf (now (input .entry)))
-        × (drop r (now (input .entry)) ≡ sheetOf (now (input .entry))) ⌝ }
-{
-    if input.len() < 6 {
-        return input.len();
-    }
-    let games = reader::short(input, 2);
-    let constraints = reader::short(input, 4);
-    let end = 6 + 2 * games + 24 * constraints;
-    if input.len() < end {
-        return input.len();
-    }
-    end
-}
-
-// The most deviations of a season that is reported.
-const MOST_DEVIATIONS: usize = 6000;
 
 // The most bytes of an input that are read: one more than the longest season with its sheet, so that the sheet of a longer input is too long.
 pub const MOST_BYTES: usize = 6 + 2 * Season::GAMES + 24 * Season::CONSTRAINTS + Season::GAMES + 1;
-
-// Any bytes, by sentences 1 to 6.
-fn examine(season: &[u8]) -> Examined
-    ensures { λ r. ⌜ Examination (upToSix (now (season .entry))) (now (season .entry)) r ⌝ }
-{
-    let e = season::examine(season);
-    if e.fault != 0 {
-        return e;
-    }
-    if MOST_DEVIATIONS < e.entries {
-        return season::refused_by(6);
-    }
-    e
-}
-
-// The reply that the report is made of; ledger and tally are used as far as the season asks.
-fn open(input: &[u8], ledger: &mut [u32], tally: &mut [u64]) -> Reply
-    requires { ⌜ (length (now ledger) ≡ mostDeviations) × (length (now tally) ≡ mostConstraints + 2) ⌝ }
-    ensures { λ r. ⌜ (r ≡ reportReply (now (input .entry)))
-        × (reportFault (now (input .entry)) ≡ 0
-        → TallyOf (seasonOf (now (input .entry))) (sheetOf (now (input .entry))) (now (tally .exit))) ⌝ }
-{
-    let end = season_end(input);
-    let season = &input[..end];
-    let e = examine(season);
-    if e.fault != 0 {
-        return calls::declined(e.fault);
-    }
-    let entries = e.entries;
-    let words = e.sizes.constraints + 2;
-    checker::season_open(
-        season,
-        &input[end..],
-        &mut ledger[..entries],
-        &mut tally[..words],
-    )
-}
 
 // Writes row number k.
 fn put_row(out: &mut [u64], k: usize, first: u64, second: u64, third: u64)
@@ -143,16 +82,16 @@ pub fn rows(input: &[u8], out: &mut [u64]) -> Report
     requires { ⌜ length (now out) ≡ 3 * (mostConstraints + 1) ⌝ }
     ensures { λ r. ⌜ Reported (now (input .entry)) r (now (out .exit)) ⌝ }
 {
-    let mut ledger = [0u32; MOST_DEVIATIONS];
+    let mut ledger = [0u32; report_reply::MOST_DEVIATIONS];
     let mut tally = [0u64; Season::CONSTRAINTS + 2];
-    let reply = open(input, &mut ledger, &mut tally);
+    let reply = report_reply::open(input, &mut ledger, &mut tally);
     if reply.declined {
         return Report {
             fault: reply.number,
             count: 0,
         };
     }
-    let end = season_end(input);
+    let end = report_reply::season_end(input);
     let count = put_rows(&input[..end], reply.number, &tally, out);
     Report { fault: 0, count }
 }

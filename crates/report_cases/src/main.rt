@@ -1,7 +1,7 @@
 // Reads a list of inputs on standard input, each one as two bytes of length, lowest first, and its bytes, and prints
 // the report of each one as `season-report` would.
 ghost use Prim.Native.Nat.{_<_, _≤_};
-ghost use Rattle.report.specs.ReportReply.{mostBytes};
+ghost use Rattle.report_reply.specs.ReportReply.{mostBytes};
 use libc::STDIN_FILENO;
 use libc::STDOUT_FILENO;
 

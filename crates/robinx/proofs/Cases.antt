@@ -8,7 +8,7 @@ use Rattle.robinx.specs.Penalty.{combine}
 use Rattle.robinx.specs.Report.{reportFault, reportRows}
 use Rattle.robinx.specs.Calls.{buffers, Buffers, Outcome, outcome, accepted, declined, openCall, setCall, exchangeCall}
 use Rattle.robinx.proofs.All.{all}
-use Rattle.robinx.proofs.SeasonA.{head, body, games, A, sheetA, ledgerA, tallyA, under}
+use Rattle.robinx.proofs.SeasonA.{head, body, gamesA, A, sheetA, ledgerA, tallyA, under}
 
 -- opening with buffers of E and C + 2 items, whatever they hold
 abbrev pub openWith : List ℕ → List ℕ → ℕ → ℕ → Outcome
@@ -141,7 +141,7 @@ printout
     : (reportRows (A ++ sheetA) ≡ (2 ∷ 10 ∷ 8 ∷ []) ∷ (0 ∷ 11 ∷ 10 ∷ []) ∷ (1 ∷ 32 ∷ 5 ∷ []) ∷ (3 ∷ 13 ∷ 3 ∷ []) ∷ [])
     × (reportFault (A ++ sheetA) ≡ 0)
     × (reportFault [] ≡ 1)
-    × (reportFault (games 4) ≡ 3)
+    × (reportFault (gamesA 4) ≡ 3)
     × (reportFault A ≡ 7)
     × (reportFault (A ++ sheetA ++ sheetA) ≡ 7)
 unfolding all

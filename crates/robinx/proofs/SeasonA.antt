@@ -10,12 +10,12 @@ abbrev pub body : ℕ → ℕ → ℕ → List ℕ
 body T1 T2 S = T1 ∷ 0 ∷ 0 ∷ 0 ∷ T2 ∷ 0 ∷ 0 ∷ 0 ∷ S ∷ 0 ∷ 0 ∷ 0 ∷ 0 ∷ 0 ∷ 0 ∷ 0 ∷ []
 
 -- sizes with C constraints, home teams, away teams
-abbrev pub games : ℕ → List ℕ
-games C = 4 ∷ 3 ∷ 6 ∷ 0 ∷ C ∷ 0 ∷ 0 ∷ 2 ∷ 1 ∷ 3 ∷ 0 ∷ 3 ∷ 1 ∷ 3 ∷ 2 ∷ 0 ∷ 2 ∷ 1 ∷ []
+abbrev pub gamesA : ℕ → List ℕ
+gamesA C = 4 ∷ 3 ∷ 6 ∷ 0 ∷ C ∷ 0 ∷ 0 ∷ 2 ∷ 1 ∷ 3 ∷ 0 ∷ 3 ∷ 1 ∷ 3 ∷ 2 ∷ 0 ∷ 2 ∷ 1 ∷ []
 
 abbrev pub A : List ℕ
 A =
-    games 4
+    gamesA 4
     ++ head 11 1 1 1 10 0 0 0
     ++ head 32 3 0 1 5 0 1 0
     ++ head 42 1 0 2 1 0 1 0
@@ -38,4 +38,4 @@ tallyA = 10 ∷ 5 ∷ 0 ∷ 3 ∷ 10 ∷ 8 ∷ []
 
 -- season A's games under one soft constraint of weight 1 and function 1
 abbrev pub under : ℕ → ℕ → ℕ → ℕ → ℕ → ℕ → ℕ → ℕ → List ℕ
-under kind mode kmin kmax w T1 T2 S = games 1 ++ head kind mode 0 1 1 kmin kmax w ++ body T1 T2 S
+under kind mode kmin kmax w T1 T2 S = gamesA 1 ++ head kind mode 0 1 1 kmin kmax w ++ body T1 T2 S

@@ -67,7 +67,7 @@ fn examine_next(x: Examined, k: Constraint) -> Examined
     ensures { λ r. ⌜ r ≡ further x k ⌝ }
 {
     let z = x.sizes;
-    if !kinds::obeys(k, z.teams, z.slots) {
+    if !kind_rules::obeys(k, z.teams, z.slots) {
         return refused_by(5);
     }
     Examined {

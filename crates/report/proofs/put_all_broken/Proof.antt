@@ -8,7 +8,8 @@ use lib.ListN.{length}
 use borrow.Author.Needs.{needs}
 use Rattle.robinx.specs.Season.{decode}
 use Rattle.reader.proofs.Read.{constraints-read}
-use Rattle.report.specs.ReportRows.{Written, TallyOf, brokenOf}
+use Rattle.report_reply.specs.ReportReply.{TallyOf}
+use Rattle.report.specs.ReportRows.{Written, brokenOf}
 use Rattle.report.proofs.Written.{none-yet, all-told, penalty-read}
 use Rattle.report.proofs.put_all_broken.Statement.{statement}
 use Rattle.report.proofs.put_all_broken.Tie as tie

@@ -4,7 +4,7 @@ use mathlib.Core.List.{[]}
 use native.Mathlib.Omega.{arith}
 use borrow.Author.Needs.{needs}
 use Rattle.season.proofs.Found.{no-fault}
-use Rattle.report.proofs.Sixth.{has-sizes, few-words}
+use Rattle.report_reply.proofs.Sixth.{has-sizes, few-words}
 use Rattle.report.proofs.Written.{no-rows, rows-told}
 use Rattle.report.proofs.put_rows.Statement.{statement}
 use Rattle.report.proofs.put_rows.Tie as tie

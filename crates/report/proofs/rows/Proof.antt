@@ -3,7 +3,7 @@ use denote.Ref.{now}
 use mathlib.Core.Path.{sym}
 use lib.Seq.{length-take-le}
 use borrow.Author.Needs.{needs}
-use Rattle.report.proofs.Answered.{refusal-reported, accepted-clear, rows-reported}
+use Rattle.report.proofs.RowsReported.{refusal-reported, accepted-clear, rows-reported}
 use Rattle.report.proofs.rows.Statement.{statement}
 use Rattle.report.proofs.rows.Tie as tie
 

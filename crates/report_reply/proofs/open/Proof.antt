@@ -8,11 +8,11 @@ use lib.Seq.{length-take-le}
 use borrow.Author.Needs.{needs}
 use Rattle.robinx.specs.Season.{mostConstraints, mostDeviations}
 use Rattle.season.specs.declared.Examined.{Examined}
-use Rattle.report.proofs.Cut.{to-its-end}
-use Rattle.report.proofs.Sixth.{UpToSix, few-entries, few-constraints}
-use Rattle.report.proofs.Answered.{refused-early-of, opened-answers-of}
-use Rattle.report.proofs.open.Statement.{statement}
-use Rattle.report.proofs.open.Tie as tie
+use Rattle.report_reply.proofs.Cut.{to-its-end}
+use Rattle.report_reply.proofs.Sixth.{UpToSix, few-entries, few-constraints}
+use Rattle.report_reply.proofs.Answered.{refused-early-of, opened-answers-of}
+use Rattle.report_reply.proofs.open.Statement.{statement}
+use Rattle.report_reply.proofs.open.Tie as tie
 
 -- l words of ledger and t words of tally are room for what the season asks
 pub record Room (l t : ℕ) (e : Examined) : Type 0 where

@@ -1,9 +1,9 @@
 -- The classes of kinds, a ten each.
 use native.Mathlib.Omega.{arith}
-use Rattle.kinds.proofs.ByNumber.{asked-none}
+use Rattle.kind_rules.proofs.RulesByNumber.{asked-none}
 use borrow.Author.Needs.{needs}
-use Rattle.kinds.proofs.obeys.Statement.{statement}
-use Rattle.kinds.proofs.obeys.Tie as tie
+use Rattle.kind_rules.proofs.obeys.Statement.{statement}
+use Rattle.kind_rules.proofs.obeys.Tie as tie
 
 capacity-obeys-requires : tie.Need-capacity-obeys-requires
 capacity-obeys-requires c κs = search needs

@@ -15,7 +15,7 @@ use Rattle.reader.proofs.Read.{constraints-read}
 use Rattle.season.proofs.Found.{no-fault, refusal}
 use Rattle.season.specs.declared.Examined.{Examined}
 use Rattle.season.specs.Examination.{Examination, refusedBy}
-use Rattle.report.specs.ReportReply.{upToSix}
+use Rattle.report_reply.specs.ReportReply.{upToSix}
 
 -- an examination by sentences 1 to 6
 abbrev pub UpToSix : List ℕ → Examined → Type 0

@@ -2,9 +2,9 @@
 use denote.Ref.{now}
 use native.Mathlib.Omega.{arith}
 use borrow.Author.Needs.{needs}
-use Rattle.report.proofs.Sixth.{one-of-five, too-many, not-too-many}
-use Rattle.report.proofs.examine.Statement.{statement}
-use Rattle.report.proofs.examine.Tie as tie
+use Rattle.report_reply.proofs.Sixth.{one-of-five, too-many, not-too-many}
+use Rattle.report_reply.proofs.examine.Statement.{statement}
+use Rattle.report_reply.proofs.examine.Tie as tie
 
 examine-requires : tie.Need-examine-requires
 examine-requires c κs = search needs

@@ -1,9 +1,11 @@
 -- The reply that the report is made of: a refusal with its number, or the first row's verdict and totals.
+use mathlib.Core.Path.{_≡_}
 use mathlib.Core.List.{List, [], _∷_, _++_}
 use Prim.Native.Nat.{ℕ, zero, suc, _+_, _*_}
 use lib.IntN.{pos}
+use lib.ListN.{take}
 use Rattle.robinx.specs.Season.{decode, mostGames, mostConstraints}
-use Rattle.robinx.specs.Books.{timetable, total, isHard, isSoft, verdict}
+use Rattle.robinx.specs.Books.{timetable, total, isHard, isSoft, verdict, freshTally}
 use Rattle.robinx.specs.Calls.{declined, accepted}
 use Rattle.robinx.specs.Refusals.{Sentence, sentence, sentence6, ofSeason}
 use Rattle.robinx.specs.Report.{seasonOf, sheetOf, reportFault}
@@ -26,3 +28,7 @@ reportReply input =
     let m = decode (seasonOf input) in
     let x = timetable m (sheetOf input) in
     replyUnless (reportFault input) (accepted (verdict m (sheetOf input) (total isHard m x)) (pos (total isHard m x)) (pos (total isSoft m x)))
+
+-- the tally begins with the penalties and totals of a sheet
+abbrev pub TallyOf : List ℕ → List ℕ → List ℕ → Type 0
+TallyOf season sheet tally = take (decode season .C + 2) tally ≡ freshTally (decode season) sheet

@@ -2,9 +2,9 @@
 use denote.Ref.{now}
 use native.Mathlib.Omega.{arith}
 use borrow.Author.Needs.{needs}
-use Rattle.report.proofs.Cut.{at-the-end, by-sizes, at-least-6, at-its-length}
-use Rattle.report.proofs.season_end.Statement.{statement}
-use Rattle.report.proofs.season_end.Tie as tie
+use Rattle.report_reply.proofs.Cut.{at-the-end, by-sizes, at-least-6, at-its-length}
+use Rattle.report_reply.proofs.season_end.Statement.{statement}
+use Rattle.report_reply.proofs.season_end.Tie as tie
 
 returns : tie.Need-returns
 returns c =
