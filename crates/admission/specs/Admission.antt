@@ -23,6 +23,7 @@ pub record Admits (season : List ℕ) (b : Buffers) (r : Admission) (t : Tables)
   pub number : r .fault ≡ openFault season b
   pub ready : r .fault ≡ 0 → Ready season b (r .sizes) (r .unplaced) t
 
+-- a refusal with this number
 abbrev pub notAdmitted : ℕ → Admission
 notAdmitted number = record { fault = number; sizes = record { teams = 0; slots = 0; games = 0; constraints = 0 }; unplaced = 0 }
 

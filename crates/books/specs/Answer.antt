@@ -20,6 +20,7 @@ use Rattle.totals.specs.RunningTotals.{TotalsOf}
 abbrev pub verdictOf : ℕ → ℕ → ℕ
 verdictOf u infeasibility = cond (ltb 0 u) 1 (cond (ltb 0 infeasibility) 2 0)
 
+-- the reply of an accepted call whose totals changed by d
 abbrev pub replyOf : ℕ → Totals → ℕ → Reply
 replyOf u d infeasibility = accepted (verdictOf u infeasibility) (toZ w64 (d .hard)) (toZ w64 (d .soft))
 

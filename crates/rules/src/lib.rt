@@ -36,7 +36,7 @@ fn holds(f: Field, kmax: u8, high: u64, v: u64) -> bool
     asks(f, kmax, v) & (v <= high)
 }
 
-// The same of S, whose slots are among the first p.
+// The same of S.
 fn slots_ask(f: Field, kmax: u8, s: Slots) -> bool
     ensures { λ r. ⌜ r ≡ asked f kmax s ⌝ }
 {
@@ -48,6 +48,7 @@ fn slots_ask(f: Field, kmax: u8, s: Slots) -> bool
     }
 }
 
+// .. and its slots are among the first p.
 fn slots_hold(f: Field, kmax: u8, p: usize, s: Slots) -> bool
     requires { ⌜ (1 ≤ p) × (p ≤ mostSlots) ⌝ }
     ensures { λ r. ⌜ r ≡ holds f kmax (2 ^ p - 1) s ⌝ }
