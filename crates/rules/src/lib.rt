@@ -36,7 +36,7 @@ fn holds(f: Field, kmax: u8, high: u64, v: u64) -> bool
     asks(f, kmax, v) & (v <= high)
 }
 
-// The same of S.
+// What the field of a row asks of S.
 fn slots_ask(f: Field, kmax: u8, s: Slots) -> bool
     ensures { λ r. ⌜ r ≡ asked f kmax s ⌝ }
 {
