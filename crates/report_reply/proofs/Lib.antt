@@ -1,3 +1,4 @@
 pub mod Cut
 pub mod Sixth
 pub mod Answered
+pub mod Limit

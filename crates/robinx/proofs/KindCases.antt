@@ -10,7 +10,6 @@ use lib.ListN.{replicate, set}
 use Rattle.robinx.specs.Sums.{catTo, onlyL}
 use Rattle.robinx.specs.Touch.{touches}
 use Rattle.robinx.specs.Rules.{obeys}
-use Rattle.robinx.specs.Report.{reportFault}
 use Rattle.robinx.specs.Calls.{buffers, Outcome, outcome, accepted, declined, setCall}
 use Rattle.robinx.specs.declared.Constraint.{Constraint}
 use Rattle.robinx.proofs.All.{all}
@@ -161,24 +160,3 @@ counts
     × (openWith (fixtures 5 4) (1 ∷ 2 ∷ 3 ∷ 4 ∷ 5 ∷ 6 ∷ 7 ∷ 8 ∷ 9 ∷ []) 0 2 .reply ≡ declined 4)
 unfolding all
 counts = (refl, refl, refl, refl, refl, refl, refl, refl, refl, refl, refl, refl)
-
--- no game, 32 teams and a slot; 12 constraints of 496 deviations, one of 32, one of 16: 6000 in all; k more of one deviation each
-abbrev wide : List ℕ
-wide = 255 ∷ 255 ∷ 255 ∷ 255 ∷ 0 ∷ 0 ∷ 0 ∷ 0 ∷ 1 ∷ 0 ∷ 0 ∷ 0 ∷ 0 ∷ 0 ∷ 0 ∷ 0 ∷ []
-
-abbrev times : ℕ → List ℕ → List ℕ
-times k l = catTo (λ a. l) k
-
-abbrev deviating : ℕ → List ℕ
-deviating k =
-    sizes 32 1 0 (14 + k)
-    ++ times 12 (head 42 1 0 1 1 0 0 0)
-    ++ times 2 (head 31 1 0 1 1 0 0 0)
-    ++ times k (head 32 1 0 1 1 0 1 0)
-    ++ times 13 wide
-    ++ (255 ∷ 255 ∷ 0 ∷ 0 ∷ 0 ∷ 0 ∷ 0 ∷ 0 ∷ 1 ∷ 0 ∷ 0 ∷ 0 ∷ 0 ∷ 0 ∷ 0 ∷ 0 ∷ [])
-    ++ times k wide
-
-report-takes-6000 : (reportFault (deviating 0) ≡ 0) × (reportFault (deviating 1) ≡ 6)
-unfolding all
-report-takes-6000 = (refl, refl)
