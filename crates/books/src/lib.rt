@@ -1,8 +1,6 @@
 // The ledger and the tally: a walk works out the touched constraints, all of them when the books are opened, and the totals follow.
 ghost use mathlib.Core.Path.{_≡_};
-ghost use mathlib.Core.Bool.{cond};
 ghost use Prim.Native.Nat.{_+_, _-_, _%_, _^_};
-ghost use lib.Dec.{ltb};
 ghost use lib.ListN.{length, getD};
 ghost use mir.Syntax.{w64};
 ghost use mir.Val.{toZ};

@@ -1,16 +1,16 @@
 -- What the numbers of a set or an exchange tell before and after the tables are tried.
-use mathlib.Core.Path.{_≡_, refl, sym, ap, _∙_}
-use mathlib.Core.List.{List, [], _∷_}
-use mathlib.Core.Bool.{Bool, true, false, not, _||_}
-use Prim.Native.Nat.{ℕ, zero, suc, _+_, _-_, _<_, _≤_}
+use mathlib.Core.Path.{_≡_, sym}
+use mathlib.Core.List.{List, []}
+use mathlib.Core.Bool.{Bool, true, false, _||_}
+use Prim.Native.Nat.{ℕ, _+_, _-_, _<_, _≤_}
 use native.Mathlib.Omega.{arith}
 use lib.Dec.{eqb}
 use lib.ListN.{length, getD, set, length-set}
 use lib.Seq.{getD-set-other}
 use mathlib.Core.Logic.{_⊎_, inl, inr}
 use mathlib.Core.Bool.{or-true}
-use borrow.Author.Tests.{lt-leb, le-leb, le-ltb, lt-ltb, eq-eqb, ne-eqb, not-true, not-false}
-use Rattle.robinx.specs.Sums.{only, sumTo}
+use borrow.Author.Tests.{lt-leb, le-leb, le-ltb, lt-ltb, eq-eqb, ne-eqb}
+use Rattle.robinx.specs.Sums.{only}
 use Rattle.robinx.specs.Season.{Instance, decode, mostTeams, mostSlots, mostGames}
 use Rattle.robinx.specs.Timetable.{clash}
 use Rattle.robinx.specs.Refusals.{firstTrue, sentence9, sentence10, sentence11, sentence12, sentence13}
@@ -20,7 +20,7 @@ use Rattle.robinx.specs.declared.Season.{Season}
 use Rattle.robinx.specs.PlainSheet.{plainFault}
 use Rattle.robinx.proofs.Sums.{or-no, term-le-sum}
 use Rattle.robinx.proofs.Passed.{Passed}
-use Rattle.robinx.proofs.Accepted.{length-moved, opens-again, low}
+use Rattle.robinx.proofs.Accepted.{length-moved, opens-again}
 use Rattle.robinx.proofs.Limits.{Sound, decode-home, decode-away}
 use Rattle.reader.specs.Sizes.{Measured}
 use Rattle.season.proofs.Found.{measured}

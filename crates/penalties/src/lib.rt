@@ -1,6 +1,6 @@
 // The penalty of a constraint: its weight times a function of the deviations in its stretch.
 ghost use mathlib.Core.Path.{_≡_};
-ghost use Prim.Native.Nat.{ℕ, _^_, _<_, min, max};
+ghost use Prim.Native.Nat.{_^_, _<_, min, max};
 ghost use Rattle.robinx.specs.Penalty.{sum, sumOfSquares, largest, smallest, combine, penalty};
 use robinx::Constraint;
 

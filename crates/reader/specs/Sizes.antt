@@ -1,6 +1,6 @@
 -- The sizes that a season's bytes give, and the test of their ranges over the numbers.
 use mathlib.Core.List.{List}
-use mathlib.Core.Bool.{Bool, true, _&&_, not}
+use mathlib.Core.Bool.{Bool, _&&_, not}
 use mathlib.Core.Path.{_≡_}
 use Prim.Native.Nat.{ℕ, _+_, _*_}
 use lib.Dec.{leb}

@@ -1,8 +1,8 @@
 -- What an accepted call tells of its numbers, and that the sheet it leaves is one that opens.
-use mathlib.Core.Path.{_≡_, refl, sym, ap, _∙_}
-use mathlib.Core.List.{List, [], _∷_}
-use mathlib.Core.Bool.{Bool, true, false, _||_}
-use Prim.Native.Nat.{ℕ, zero, suc, _<_, _≤_}
+use mathlib.Core.Path.{_≡_, sym, ap, _∙_}
+use mathlib.Core.List.{List, []}
+use mathlib.Core.Bool.{false}
+use Prim.Native.Nat.{ℕ, _<_, _≤_}
 use native.Mathlib.Omega.{arith}
 use native.Mathlib.Decide.{ℕ-discrete}
 use lib.Dec.{ltb}
@@ -12,7 +12,7 @@ use borrow.Author.Tests.{leb-false, ltb-false, eqb-false, le-ltb}
 use Rattle.robinx.specs.Sums.{anyTo}
 use Rattle.robinx.specs.Season.{Instance}
 use Rattle.robinx.specs.Timetable.{clash}
-use Rattle.robinx.specs.Refusals.{firstTrue, sentence8, sentence9, sentence10, sentence11, sentence12, sentence13}
+use Rattle.robinx.specs.Refusals.{sentence8, sentence9, sentence10, sentence11, sentence13}
 use Rattle.robinx.specs.Calls.{Call, moved, ofCall}
 use Rattle.robinx.specs.PlainSheet.{plainFault}
 use Rattle.robinx.proofs.Sums.{or-no, any-none, none-any}

@@ -1,18 +1,18 @@
 -- One accepted call on fresh books leaves fresh books, though it works out only what it touches.
-use mathlib.Core.Path.{_≡_, refl, sym, ap, ap₂, _∙_}
-use mathlib.Core.List.{List, [], _∷_, _++_}
+use mathlib.Core.Path.{_≡_, refl, ap, _∙_}
+use mathlib.Core.List.{List, [], _∷_}
 use mathlib.Core.Bool.{Bool, true, false, cond}
-use Prim.Native.Nat.{ℕ, zero, suc, _+_, _^_, _<_}
+use Prim.Native.Nat.{ℕ, _+_, _^_, _<_}
 use native.Mathlib.Omega.{arith}
 use lib.IntN.{pos, _+ℤ_}
-use lib.ListN.{length, getD}
+use lib.ListN.{getD}
 use mir.Syntax.{w64}
 use mir.Val.{toZ}
 use Rattle.robinx.specs.Sums.{catTo, listTo}
 use Rattle.robinx.specs.Season.{Instance}
-use Rattle.robinx.specs.Timetable.{X, clash}
+use Rattle.robinx.specs.Timetable.{X}
 use Rattle.robinx.specs.Penalty.{penalty}
-use Rattle.robinx.specs.Books.{timetable, deviationsAt, penaltyAt, entriesAt, isHard, isSoft, total, freshLedger, freshTally, verdict}
+use Rattle.robinx.specs.Books.{timetable, deviationsAt, penaltyAt, isHard, isSoft, total, freshLedger, freshTally, verdict}
 use Rattle.robinx.specs.Calls.{Outcome, outcome, freshBuffers, accepted, Call, moved, touched, stretchAt, reworkedStretch, reworkedPenalty, change, movedTotal, reworked}
 use Rattle.robinx.specs.declared.Constraint.{Constraint}
 use Rattle.robinx.proofs.Ext.{cat-ext}

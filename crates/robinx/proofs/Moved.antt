@@ -1,9 +1,9 @@
 -- The change of a total: what the touched constraints gained less what they lost is the fresh total after less the fresh total
 -- before, modulo 2^64 and, read as two's complement, as an integer.
-use mathlib.Core.Path.{_≡_, refl, sym, ap, ap₂, _∙_}
+use mathlib.Core.Path.{_≡_, refl, sym, ap, _∙_}
 use mathlib.Core.List.{List}
 use mathlib.Core.Bool.{Bool, true, false, _&&_}
-use Prim.Native.Nat.{ℕ, zero, suc, _+_, _-_, _%_, _^_, _<_, _≤_}
+use Prim.Native.Nat.{ℕ, suc, _+_, _-_, _%_, _^_, _<_, _≤_}
 use native.Mathlib.Omega.{arith}
 use lib.Dec.{ltb}
 use lib.IntN.{ℤ, pos, negsuc, _+ℤ_}
@@ -18,7 +18,7 @@ use Rattle.robinx.specs.Penalty.{penalty}
 use Rattle.robinx.specs.Books.{deviationsAt, penaltyAt, total}
 use Rattle.robinx.specs.Calls.{gained, lost, change, movedTotal}
 use Rattle.robinx.specs.declared.Constraint.{Constraint}
-use Rattle.robinx.proofs.Sums.{sum-add, sum-le, only-le}
+use Rattle.robinx.proofs.Sums.{sum-add, sum-le}
 use Rattle.robinx.proofs.Ext.{sum-ext}
 
 -- one constraint: p its penalty before, q after

@@ -1,7 +1,7 @@
 -- The timetable x of RobinX, section 2, and what its constraints are written with. x is all that a deviation sees of a sheet.
 -- Slots count from 0 here; slot 0 of the sheet, unplaced, is none of them.
 use mathlib.Core.List.{List}
-use mathlib.Core.Bool.{Bool, true, false, _&&_, _||_, not, cond}
+use mathlib.Core.Bool.{Bool, false, _&&_, _||_, not, cond}
 use Prim.Native.Nat.{ℕ, zero, suc, _+_, _-_, _%_}
 use lib.Dec.{eqb, leb, ltb}
 use lib.ListN.{length, getD}

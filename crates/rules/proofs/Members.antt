@@ -2,8 +2,7 @@
 -- may be read off set bits.
 use mathlib.Core.Path.{_≡_, refl, _∙_}
 use mathlib.Core.Bool.{Bool, true, false, _&&_, _||_, not, and-assoc}
-use Prim.Native.Nat.{ℕ, zero, suc, _+_, _-_, _*_, _/_, _^_, _<_, _≤_}
-use native.Mathlib.Omega.{arith}
+use Prim.Native.Nat.{ℕ, _-_, _^_, _<_}
 use lib.Dec.{leb}
 use lib.Pow.{lt-of-le-ones}
 use Rattle.robinx.specs.Season.{slotsOf}

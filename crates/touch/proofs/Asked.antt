@@ -4,9 +4,7 @@ use mathlib.Core.Bool.{Bool, true, false, _&&_, _||_, not, and-false}
 use Prim.Native.Nat.{ℕ, zero, suc, _-_}
 use native.Mathlib.Omega.{arith}
 use lib.Dec.{eqb}
-use borrow.Author.Tests.{eq-eqb}
 use Rattle.robinx.specs.Season.{slotsOf}
-use Rattle.robinx.specs.Groups.{has}
 use Rattle.robinx.specs.Kinds.{formAt}
 use Rattle.robinx.specs.Touch.{teamsTouch, slotTouches, scopeOf, hits, touches}
 use Rattle.robinx.specs.declared.Constraint.{Constraint}
