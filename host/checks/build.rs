@@ -1,4 +1,4 @@
-//! Links libseason_checker.a from the folder SEASON_CHECKER_DIR (default: target/ at the root), and the helpers of the header.
+//! Builds and links the helpers of the header.
 
 use std::env;
 use std::path::{Path, PathBuf};
@@ -6,12 +6,7 @@ use std::process::Command;
 
 fn main() {
     let root = PathBuf::from(env::var("CARGO_MANIFEST_DIR").unwrap()).join("../..");
-    let folder = env::var("SEASON_CHECKER_DIR").map_or(root.join("target"), PathBuf::from);
-    println!("cargo:rerun-if-env-changed=SEASON_CHECKER_DIR");
-    println!("cargo:rerun-if-changed={}", folder.join("libseason_checker.a").display());
     build_helpers(&root);
-    println!("cargo:rustc-link-search=native={}", folder.display());
-    println!("cargo:rustc-link-lib=static=season_checker");
 }
 
 /// The helpers as an archive of their own, so that they are tested without the shared library.

@@ -1,7 +1,8 @@
 //! The helpers of the header, called as C.
 
-use crate::library::RawReply;
+use crate::library::plain;
 use reference::{Buffers, Call, Reply};
+use season_calls::RawReply;
 use std::ffi::{c_char, c_uint, CStr};
 
 /// `season_kind_row` of the header.
@@ -112,7 +113,7 @@ pub fn call(season: &[u8], buffers: &mut Buffers, call: Call) -> Reply {
             Call::Exchange { game, other } => season_buffers_exchange(&lent, game, other),
         }
     };
-    raw.reply()
+    plain(raw.reply())
 }
 
 fn null_if_empty<T>(items: &mut [T]) -> *mut T {

@@ -1,59 +1,7 @@
 //! The library's calls, on buffers with a margin on both sides that has to stay as it is.
 
 use reference::{Buffers, Call, Reply};
-
-#[repr(C)]
-pub(crate) struct RawReply {
-    declined: u8,
-    number: u8,
-    infeasibility: i64,
-    objective: i64,
-}
-
-impl RawReply {
-    /// The first byte has to be 0 or 1.
-    pub(crate) fn reply(self) -> Reply {
-        assert!(self.declined <= 1, "the reply's first byte is {}", self.declined);
-        Reply { declined: self.declined == 1, number: self.number, infeasibility: self.infeasibility, objective: self.objective }
-    }
-}
-
-extern "C" {
-    fn season_open(
-        season: *const u8,
-        season_len: usize,
-        sheet: *const u8,
-        sheet_len: usize,
-        ledger: *mut u32,
-        ledger_len: usize,
-        tally: *mut u64,
-        tally_len: usize,
-    ) -> RawReply;
-    fn season_set(
-        season: *const u8,
-        season_len: usize,
-        sheet: *mut u8,
-        sheet_len: usize,
-        ledger: *mut u32,
-        ledger_len: usize,
-        tally: *mut u64,
-        tally_len: usize,
-        game: u64,
-        slot: u64,
-    ) -> RawReply;
-    fn season_exchange(
-        season: *const u8,
-        season_len: usize,
-        sheet: *mut u8,
-        sheet_len: usize,
-        ledger: *mut u32,
-        ledger_len: usize,
-        tally: *mut u64,
-        tally_len: usize,
-        game: u64,
-        other: u64,
-    ) -> RawReply;
-}
+use season_calls::Move;
 
 const MARGIN: usize = 16;
 
@@ -111,27 +59,13 @@ impl Lent {
 
     /// Makes a call of the library.
     pub fn call(&mut self, call: Call) -> Reply {
-        let season = self.season.items();
-        let (season, season_len) = (season.as_ptr(), season.len());
-        let sheet = self.sheet.items_mut();
-        let (sheet, sheet_len) = (sheet.as_mut_ptr(), sheet.len());
-        let ledger = self.ledger.items_mut();
-        let (ledger, ledger_len) = (ledger.as_mut_ptr(), ledger.len());
-        let tally = self.tally.items_mut();
-        let (tally, tally_len) = (tally.as_mut_ptr(), tally.len());
-        // The pointers are those of four separate vectors, with their true lengths.
-        let raw = unsafe {
-            match call {
-                Call::Open => season_open(season, season_len, sheet, sheet_len, ledger, ledger_len, tally, tally_len),
-                Call::Set { game, slot } => {
-                    season_set(season, season_len, sheet, sheet_len, ledger, ledger_len, tally, tally_len, game, slot)
-                }
-                Call::Exchange { game, other } => {
-                    season_exchange(season, season_len, sheet, sheet_len, ledger, ledger_len, tally, tally_len, game, other)
-                }
-            }
-        };
-        raw.reply()
+        let (season, sheet) = (self.season.items(), self.sheet.items_mut());
+        let (ledger, tally) = (self.ledger.items_mut(), self.tally.items_mut());
+        plain(match call {
+            Call::Open => season_calls::open(season, sheet, ledger, tally),
+            Call::Set { game, slot } => season_calls::make(Move::Set { game, slot }, season, sheet, ledger, tally),
+            Call::Exchange { game, other } => season_calls::make(Move::Exchange { game, other }, season, sheet, ledger, tally),
+        })
     }
 
     pub fn season(&self) -> &[u8] {
@@ -160,4 +94,9 @@ impl Lent {
         ];
         intact.iter().find(|(good, _)| !good).map(|&(_, name)| name)
     }
+}
+
+/// The library's reply as the independent checker has it.
+pub(crate) fn plain(reply: season_calls::Reply) -> Reply {
+    Reply { declined: reply.declined, number: reply.number, infeasibility: reply.infeasibility, objective: reply.objective }
 }
