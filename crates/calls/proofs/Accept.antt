@@ -7,9 +7,7 @@ use native.Mathlib.Omega.{arith}
 use lib.Dec.{eqb}
 use lib.ListN.{length, getD, set, length-set}
 use lib.Seq.{getD-set-other}
-use mathlib.Core.Logic.{_⊎_, inl, inr}
-use mathlib.Core.Bool.{or-true}
-use borrow.Author.Tests.{lt-leb, le-leb, le-ltb, lt-ltb, eq-eqb, ne-eqb}
+use borrow.Author.Tests.{lt-leb, le-ltb, ne-eqb}
 use Rattle.robinx.specs.Sums.{only}
 use Rattle.robinx.specs.Season.{Instance, decode, mostTeams, mostSlots, mostGames}
 use Rattle.robinx.specs.Timetable.{clash}
@@ -118,49 +116,25 @@ module _ {s : List ℕ} {t : Tables} {b : Buffers} {z : Season} {u : ℕ} (r : R
         → outcome a (buffers (moved (b .sheet) k) ledger′ tally′) ≡ afterEntry (decode s) b k
     call-is w et eu = rw e (reworked-is b k w et (same-deviations s (moved (b .sheet) k) (length (b .ledger)) (length (b .tally)) again f) eu)
 
-module _ (m : Instance) (sheet : List ℕ) (g b : ℕ) where
-  pub set-fault-9 : m .G ≤ g → plainFault m sheet (Call.setSlot g b) ≡ 9
-  unfolding plainFault firstTrue sentence9
-  set-fault-9 h = rw (le-leb (m .G) g h)
+-- Sentence 13 decides, once the others are passed.
+module _ (m : Instance) (sheet : List ℕ) {g b : ℕ} (lg : g < m .G) (lb : b ≤ m .P) where
+  pub set-fault-13 : clash (m .home) (m .away) (set sheet g b) ≡ true → plainFault m sheet (Call.setSlot g b) ≡ 13
+  unfolding plainFault firstTrue sentence9 sentence10 sentence13 moved
+  set-fault-13 h = rw (lt-leb (m .G) g lg, le-ltb (m .P) b lb, h)
 
-  module _ (lg : g < m .G) where
-    pub set-fault-10 : m .P < b → plainFault m sheet (Call.setSlot g b) ≡ 10
-    unfolding plainFault firstTrue sentence9 sentence10
-    set-fault-10 h = rw (lt-leb (m .G) g lg, lt-ltb (m .P) b h)
+  pub set-no-fault : clash (m .home) (m .away) (set sheet g b) ≡ false → plainFault m sheet (Call.setSlot g b) ≡ 0
+  unfolding plainFault firstTrue sentence9 sentence10 sentence13 moved
+  set-no-fault h = rw (lt-leb (m .G) g lg, le-ltb (m .P) b lb, h)
 
-    module _ (lb : b ≤ m .P) where
-      pub set-fault-13 : clash (m .home) (m .away) (set sheet g b) ≡ true → plainFault m sheet (Call.setSlot g b) ≡ 13
-      unfolding plainFault firstTrue sentence9 sentence10 sentence13 moved
-      set-fault-13 h = rw (lt-leb (m .G) g lg, le-ltb (m .P) b lb, h)
+module _ (m : Instance) (sheet : List ℕ) {g h : ℕ} (lg : g < m .G) (lh : h < m .G) (differ : g ≡ h → ⊥)
+    (placed : eqb (getD sheet g 0) 0 || eqb (getD sheet h 0) 0 ≡ false) where
+  pub exchange-fault-13 : clash (m .home) (m .away) (moved sheet (Call.exchange g h)) ≡ true → plainFault m sheet (Call.exchange g h) ≡ 13
+  unfolding plainFault firstTrue sentence9 sentence11 sentence12 sentence13
+  exchange-fault-13 e = rw (lt-leb (m .G) g lg, lt-leb (m .G) h lh, ne-eqb g h differ, placed, e)
 
-      pub set-no-fault : clash (m .home) (m .away) (set sheet g b) ≡ false → plainFault m sheet (Call.setSlot g b) ≡ 0
-      unfolding plainFault firstTrue sentence9 sentence10 sentence13 moved
-      set-no-fault h = rw (lt-leb (m .G) g lg, le-ltb (m .P) b lb, h)
-
-module _ (m : Instance) (sheet : List ℕ) (g h : ℕ) where
-  pub exchange-fault-9 : (m .G ≤ g) ⊎ (m .G ≤ h) → plainFault m sheet (Call.exchange g h) ≡ 9
-  unfolding plainFault firstTrue sentence9
-  exchange-fault-9 (inl e) = rw (le-leb (m .G) g e)
-  exchange-fault-9 (inr e) = rw (le-leb (m .G) h e, or-true)
-
-  module _ (lg : g < m .G) (lh : h < m .G) where
-    pub exchange-fault-11 : g ≡ h → plainFault m sheet (Call.exchange g h) ≡ 11
-    unfolding plainFault firstTrue sentence9 sentence11
-    exchange-fault-11 e = rw (lt-leb (m .G) g lg, lt-leb (m .G) h lh, eq-eqb g h e)
-
-    module _ (differ : g ≡ h → ⊥) where
-      pub exchange-fault-12 : eqb (getD sheet g 0) 0 || eqb (getD sheet h 0) 0 ≡ true → plainFault m sheet (Call.exchange g h) ≡ 12
-      unfolding plainFault firstTrue sentence9 sentence11 sentence12
-      exchange-fault-12 e = rw (lt-leb (m .G) g lg, lt-leb (m .G) h lh, ne-eqb g h differ, e)
-
-      module _ (placed : eqb (getD sheet g 0) 0 || eqb (getD sheet h 0) 0 ≡ false) where
-        pub exchange-fault-13 : clash (m .home) (m .away) (moved sheet (Call.exchange g h)) ≡ true → plainFault m sheet (Call.exchange g h) ≡ 13
-        unfolding plainFault firstTrue sentence9 sentence11 sentence12 sentence13
-        exchange-fault-13 e = rw (lt-leb (m .G) g lg, lt-leb (m .G) h lh, ne-eqb g h differ, placed, e)
-
-        pub exchange-no-fault : clash (m .home) (m .away) (moved sheet (Call.exchange g h)) ≡ false → plainFault m sheet (Call.exchange g h) ≡ 0
-        unfolding plainFault firstTrue sentence9 sentence11 sentence12 sentence13
-        exchange-no-fault e = rw (lt-leb (m .G) g lg, lt-leb (m .G) h lh, ne-eqb g h differ, placed, e)
+  pub exchange-no-fault : clash (m .home) (m .away) (moved sheet (Call.exchange g h)) ≡ false → plainFault m sheet (Call.exchange g h) ≡ 0
+  unfolding plainFault firstTrue sentence9 sentence11 sentence12 sentence13
+  exchange-no-fault e = rw (lt-leb (m .G) g lg, lt-leb (m .G) h lh, ne-eqb g h differ, placed, e)
 
 -- the count of unplaced games after a set
 pub unplaced-after-set : (sheet : List ℕ) (g b G : ℕ) {u left from to : ℕ} → g < G → length sheet ≡ G → u ≡ unplaced sheet G

@@ -1,28 +1,20 @@
 -- The exported calls: a refusal of sentences 1 to 8, or what follows them.
-use mathlib.Core.Path.{_≡_, refl, sym, ap, _∙_}
+use mathlib.Core.Path.{_≡_, sym, ap, _∙_}
 use mathlib.Core.List.{List}
-use Prim.Native.Nat.{ℕ, zero, suc}
+use Prim.Native.Nat.{ℕ}
 use Rattle.robinx.specs.Season.{decode}
-use Rattle.robinx.specs.Calls.{Buffers, Outcome, outcome, declined, unlessRefused, opened, openCall, Call, callFault, callOn}
+use Rattle.robinx.specs.Calls.{Buffers, Outcome, outcome, declined, opened, openCall, Call, callFault, callOn}
 use Rattle.robinx.specs.PlainSheet.{plainFault}
 use Rattle.robinx.specs.declared.Reply.{Reply}
 use Rattle.robinx.proofs.Passed.{orElse, fault-of-call}
 use Rattle.tables.specs.Tables.{Tables}
 use Rattle.admission.specs.Admission.{Admits, afterEntry}
 use Rattle.admission.specs.declared.Admission.{Admission}
+use Rattle.calls.proofs.Numbers.{refused, first}
 
 module _ {s : List ℕ} {t : Tables} {b : Buffers} {r : Admission} (w : Admits s b r t) where
   call-fault : (k : Call) → callFault s b k ≡ orElse (r .fault) (plainFault (decode s) (b .sheet) k)
   call-fault k = fault-of-call s b k ∙ ap (λ (f : ℕ). orElse f (plainFault (decode s) (b .sheet) k)) (sym (w .number))
-
-  -- a refusal that comes before all others
-  refused : (f : ℕ) (done : Outcome) {a : Reply} → (f ≡ 0 → ⊥) → a ≡ declined f → outcome a b ≡ unlessRefused f done b
-  refused zero done some e = absurd (some refl)
-  refused (suc f) done some e = rw e
-
-  first : (f g : ℕ) → (f ≡ 0 → ⊥) → orElse f g ≡ f
-  first zero g some = absurd (some refl)
-  first (suc f) g some = refl
 
   pub open-refused : {a : Reply} → (r .fault ≡ 0 → ⊥) → a ≡ declined (r .fault) → outcome a b ≡ openCall s b
   unfolding openCall

@@ -3,12 +3,13 @@ ghost use mathlib.Core.Path.{_≡_};
 ghost use mathlib.Core.Bool.{false, _||_};
 ghost use Prim.Native.Nat.{_<_};
 ghost use lib.Dec.{eqb};
-ghost use lib.ListN.{length, getD};
+ghost use lib.ListN.{getD};
 ghost use Rattle.robinx.specs.Season.{decode};
 ghost use Rattle.robinx.specs.Calls.{exchange, buffers, outcome};
 ghost use Rattle.tables.specs.Tables.{tables};
 ghost use Rattle.admission.specs.Admission.{Ready, afterEntry};
 use calls::declined;
+use calls::exchange_fault;
 use calls::move_of;
 use robinx::Reply;
 use robinx::Season;
@@ -68,14 +69,6 @@ fn swap(
     declined(13)
 }
 
-// One of the two games has no slot.
-fn unplaced_pair(sheet: &[u8], g: usize, h: usize) -> bool
-    requires { ⌜ (g < length (now sheet)) × (h < length (now sheet)) ⌝ }
-    ensures { λ r. ⌜ r ≡ eqb (getD (now (sheet .entry)) g 0) 0 || eqb (getD (now (sheet .entry)) h 0) 0 ⌝ }
-{
-    (sheet[g] == 0) | (sheet[h] == 0)
-}
-
 // Exchange, once sentences 1 to 8 are passed.
 pub fn exchange(
     season: &[u8],
@@ -94,19 +87,9 @@ pub fn exchange(
     ensures { λ r. ⌜ outcome r (buffers (now (sheet .exit)) (now (ledger .exit)) (now (tally .exit)))
         ≡ afterEntry (decode (now (season .entry))) (buffers (now (sheet .entry)) (now (ledger .entry)) (now (tally .entry))) (exchange game other) ⌝ }
 {
-    if z.games as u64 <= game {
-        return declined(9);
-    }
-    if z.games as u64 <= other {
-        return declined(9);
-    }
-    if game == other {
-        return declined(11);
-    }
-    let g = game as usize;
-    let h = other as usize;
-    if unplaced_pair(&*sheet, g, h) {
-        return declined(12);
+    let fault = exchange_fault(z, &*sheet, game, other);
+    if fault != 0 {
+        return declined(fault);
     }
     swap(
         season,
@@ -118,7 +101,7 @@ pub fn exchange(
         meets,
         ledger,
         tally,
-        g,
-        h,
+        game as usize,
+        other as usize,
     )
 }

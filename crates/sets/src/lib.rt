@@ -7,6 +7,7 @@ ghost use Rattle.tables.specs.Tables.{tables};
 ghost use Rattle.admission.specs.Admission.{Ready, afterEntry};
 use calls::declined;
 use calls::move_of;
+use calls::set_fault;
 use robinx::Reply;
 use robinx::Season;
 use robinx::Slots;
@@ -82,11 +83,9 @@ pub fn set(
     ensures { λ r. ⌜ outcome r (buffers (now (sheet .exit)) (now (ledger .exit)) (now (tally .exit)))
         ≡ afterEntry (decode (now (season .entry))) (buffers (now (sheet .entry)) (now (ledger .entry)) (now (tally .entry))) (setSlot game slot) ⌝ }
 {
-    if z.games as u64 <= game {
-        return declined(9);
-    }
-    if (z.slots as u64) < slot {
-        return declined(10);
+    let fault = set_fault(z, game, slot);
+    if fault != 0 {
+        return declined(fault);
     }
     set_to(
         season,

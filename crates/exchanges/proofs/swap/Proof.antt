@@ -87,7 +87,7 @@ rework-requires c κs =
     let a = entry n .args in
     let p = entry n .pre in
     let f = rw (m .before .before .before .if1 .taken, n .before .homes .ensures, n .aways .ensures) at (t .swap .ensures) in
-    let e = exchange-no-fault (decode (now (a .season))) (now (a .sheet)) (a .g) (a .h) (p .1) (p .2) (p .3) (p .4) (not-true _ (sym (f .no-clash))) in
+    let e = exchange-no-fault (decode (now (a .season))) (now (a .sheet)) (p .1) (p .2) (p .3) (p .4) (not-true _ (sym (f .no-clash))) in
     (given-after (p .0) (Call.exchange (a .g) (a .h)) e f, m .moves .ensures .3)
 
 same-length : tie.Need-same-length
@@ -109,7 +109,7 @@ returns c =
     let a = entry n .args in
     let p = entry n .pre in
     let f = rw (m .before .before .before .if1 .taken, n .before .homes .ensures, n .aways .ensures) at (t .swap .ensures) in
-    let e = exchange-no-fault (decode (now (a .season))) (now (a .sheet)) (a .g) (a .h) (p .1) (p .2) (p .3) (p .4) (not-true _ (sym (f .no-clash))) in
+    let e = exchange-no-fault (decode (now (a .season))) (now (a .sheet)) (p .1) (p .2) (p .3) (p .4) (not-true _ (sym (f .no-clash))) in
     call-is (p .0) (Call.exchange (a .g) (a .h)) e f (w .rework .ensures)
     (exchange-touched (decode (now (a .season))) (now (a .sheet)) (m .moves .result) (m .moves .ensures) (a .g) (a .h)
     (rw (n .before .homes .ensures, n .aways .ensures) at (m .before .before .move-of .ensures))
@@ -130,7 +130,7 @@ returns-2 c =
     let a = entry n .args in
     let p = entry n .pre in
     let f = rw (c .before .if1 .left, n .before .homes .ensures, n .aways .ensures) at (t .swap .ensures) in
-    rw (c .declined .ensures, exchange-fault-13 (decode (now (a .season))) (now (a .sheet)) (a .g) (a .h) (p .1) (p .2) (p .3) (p .4) (not-false _ (sym (f .no-clash))))
+    rw (c .declined .ensures, exchange-fault-13 (decode (now (a .season))) (now (a .sheet)) (p .1) (p .2) (p .3) (p .4) (not-false _ (sym (f .no-clash))))
 
 pub swap-spec : {M : Type 1} → statement M
 swap-spec =

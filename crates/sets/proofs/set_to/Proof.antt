@@ -95,7 +95,7 @@ rework-requires c κs =
     let a = entry n .args in
     let p = entry n .pre in
     let f = rw (d .before .if1 .taken, n .before .homes .ensures, n .aways .ensures) at (t .reslot .ensures) in
-    let e = set-no-fault (decode (now (a .season))) (now (a .sheet)) (a .g) (a .b) (p .1) (p .2) (not-true _ (sym (f .no-clash))) in
+    let e = set-no-fault (decode (now (a .season))) (now (a .sheet)) (p .1) (p .2) (not-true _ (sym (f .no-clash))) in
     (given-after (p .0) (Call.setSlot (a .g) (a .b)) e f, m .moves .ensures .3)
 
 same-length : tie.Need-same-length
@@ -118,7 +118,7 @@ returns c =
     let a = entry n .args in
     let p = entry n .pre in
     let f = rw (d .before .if1 .taken, n .before .homes .ensures, n .aways .ensures) at (t .reslot .ensures) in
-    let e = set-no-fault (decode (now (a .season))) (now (a .sheet)) (a .g) (a .b) (p .1) (p .2) (not-true _ (sym (f .no-clash))) in
+    let e = set-no-fault (decode (now (a .season))) (now (a .sheet)) (p .1) (p .2) (not-true _ (sym (f .no-clash))) in
     call-is (p .0) (Call.setSlot (a .g) (a .b)) e f (w .rework .ensures)
     (set-touched (decode (now (a .season))) (now (a .sheet)) (m .moves .result) (m .moves .ensures) (a .g) (a .b)
     (rw (n .before .homes .ensures, n .aways .ensures) at (d .move-of .ensures))
@@ -142,7 +142,7 @@ returns-2 c =
     let a = entry n .args in
     let p = entry n .pre in
     let f = rw (c .before .if1 .left, n .before .homes .ensures, n .aways .ensures) at (t .reslot .ensures) in
-    rw (c .declined .ensures, set-fault-13 (decode (now (a .season))) (now (a .sheet)) (a .g) (a .b) (p .1) (p .2) (not-false _ (sym (f .no-clash))))
+    rw (c .declined .ensures, set-fault-13 (decode (now (a .season))) (now (a .sheet)) (p .1) (p .2) (not-false _ (sym (f .no-clash))))
 
 pub set-to-spec : {M : Type 1} → statement M
 set-to-spec =
