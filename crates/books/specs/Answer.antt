@@ -1,9 +1,8 @@
 -- What an accepted call answers and leaves in the books, for any timetable x and any number u of unplaced games.
 use mathlib.Core.Path.{_≡_}
 use mathlib.Core.List.{List, [], _∷_, _++_}
-use mathlib.Core.Bool.{Bool, cond}
+use mathlib.Core.Bool.{Bool}
 use Prim.Native.Nat.{ℕ, _+_}
-use lib.Dec.{ltb}
 use lib.ListN.{getD}
 use mir.Syntax.{w64}
 use mir.Val.{toZ}
@@ -15,10 +14,7 @@ use Rattle.robinx.specs.Calls.{accepted, reworkedStretch, reworkedPenalty, chan
 use Rattle.robinx.specs.declared.Reply.{Reply}
 use Rattle.totals.specs.declared.Totals.{Totals}
 use Rattle.totals.specs.RunningTotals.{TotalsOf}
-
--- the verdict by a count of the unplaced games
-abbrev pub verdictOf : ℕ → ℕ → ℕ
-verdictOf u infeasibility = cond (ltb 0 u) 1 (cond (ltb 0 infeasibility) 2 0)
+use Rattle.replies.specs.Verdict.{verdictOf}
 
 -- the reply of an accepted call whose totals changed by d
 abbrev pub replyOf : ℕ → Totals → ℕ → Reply

@@ -2,13 +2,13 @@
 ghost use mathlib.Core.Path.{_≡_};
 ghost use Prim.Native.Nat.{_+_, _-_, _%_, _^_};
 ghost use lib.ListN.{length, getD};
-ghost use mir.Syntax.{w64};
-ghost use mir.Val.{toZ};
 ghost use Rattle.robinx.specs.Season.{decode};
-ghost use Rattle.robinx.specs.Calls.{movedTotal, accepted};
+ghost use Rattle.robinx.specs.Calls.{movedTotal};
 ghost use Rattle.tables.specs.Tables.{tables, xOf};
 ghost use Rattle.walk.specs.Walk.{Given, SoundTouch, isTouched, stored};
-ghost use Rattle.books.specs.Answer.{verdictOf, Opened, Answered};
+ghost use Rattle.books.specs.Answer.{Opened, Answered};
+use replies::accepted;
+use replies::verdict;
 use robinx::Reply;
 use robinx::Season;
 use robinx::Slots;
@@ -44,31 +44,6 @@ fn settle(moved: Moved, at: usize, tally: &mut [u64]) -> Totals
     let soft = tally[at + 1];
     store(totals::moved(Totals { hard, soft }, change), at, tally);
     change
-}
-
-// The verdict, from the number of unplaced games and the infeasibility.
-fn verdict(unplaced: usize, infeasibility: u64) -> u8
-    ensures { λ r. ⌜ r ≡ verdictOf unplaced infeasibility ⌝ }
-{
-    if 0 < unplaced {
-        return 1;
-    }
-    if 0 < infeasibility {
-        return 2;
-    }
-    0
-}
-
-// An accepted call's reply: its verdict, and the changes of infeasibility and objective as two's complement.
-fn accepted(number: u8, change: Totals) -> Reply
-    ensures { λ r. ⌜ r ≡ accepted number (toZ w64 (change .hard)) (toZ w64 (change .soft)) ⌝ }
-{
-    Reply {
-        declined: false,
-        number,
-        infeasibility: totals::signed(change.hard),
-        objective: totals::signed(change.soft),
-    }
 }
 
 // The books of the tables, of whose sheet so many games are unplaced. The changes are the totals themselves.

@@ -1,12 +1,10 @@
-// What stands around the tables in set and exchange: the sentences about their numbers, the reply of a refused call, the move of a game.
+// What stands around the tables in set and exchange: the sentences about their numbers, and the move of a game.
 ghost use mathlib.Core.Path.{_≡_};
 ghost use Prim.Native.Nat.{_<_, _≤_};
 ghost use lib.ListN.{length};
 ghost use Rattle.robinx.specs.Refusals.{firstTrue, sentence12};
-ghost use Rattle.robinx.specs.Calls.{declined};
 ghost use Rattle.calls.specs.Numbers.{setNumbers, exchangeNumbers};
 ghost use Rattle.calls.specs.Moves.{moveOf};
-use robinx::Reply;
 use robinx::Season;
 use touch::Move;
 
@@ -49,17 +47,6 @@ pub fn exchange_fault(z: Season, sheet: &[u8], game: u64, other: u64) -> u8
         return 12;
     }
     0
-}
-
-pub fn declined(number: u8) -> Reply
-    ensures { λ r. ⌜ r ≡ declined number ⌝ }
-{
-    Reply {
-        declined: true,
-        number,
-        infeasibility: 0,
-        objective: 0,
-    }
 }
 
 // Game g goes from one slot to another.

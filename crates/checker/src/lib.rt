@@ -29,7 +29,7 @@ pub extern "C" fn season_open(
         &mut meets,
     );
     if a.fault != 0 {
-        return calls::declined(a.fault);
+        return replies::declined(a.fault);
     }
     books::open(
         season,
@@ -69,7 +69,7 @@ pub extern "C" fn season_set(
         &mut meets,
     );
     if a.fault != 0 {
-        return calls::declined(a.fault);
+        return replies::declined(a.fault);
     }
     sets::set(
         season,
@@ -112,7 +112,7 @@ pub extern "C" fn season_exchange(
         &mut meets,
     );
     if a.fault != 0 {
-        return calls::declined(a.fault);
+        return replies::declined(a.fault);
     }
     exchanges::exchange(
         season,

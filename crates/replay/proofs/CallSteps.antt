@@ -5,21 +5,12 @@ use Prim.Native.Nat.{ℕ, _+_, _%_, _^_}
 use lib.IntN.{ℤ}
 use Rattle.robinx.specs.Calls.{Buffers, Outcome, outcome, Call, openCall, callOn}
 use Rattle.robinx.specs.declared.Reply.{Reply}
-use Rattle.replay.specs.declared.Played.{Played}
-use Rattle.replay.specs.Word.{word}
-use Rattle.replay.specs.Play.{last, added, begun, withReply, Replays}
-use Rattle.replay.proofs.Words.{word-adds}
+use Rattle.played.specs.declared.Played.{Played}
+use Rattle.played.specs.Word.{word}
+use Rattle.played.specs.ReplyList.{begun, withReply}
+use Rattle.replay.specs.Play.{last, added, Replays}
+use Rattle.played.proofs.Words.{word-adds}
 use Rattle.replay.proofs.Lists.{last-more, added-more}
-
--- what the code makes of a reply
-pub begun-is : (r : Reply) {h s : ℕ} → h ≡ word (r .infeasibility) → s ≡ word (r .objective)
-    → record { reply = r; infeasibility = h; objective = s } ≡ begun r
-begun-is r e f = rw (e, f)
-
-pub with-is : (p : Played) (r : Reply) {a b h s : ℕ} → a ≡ word (r .infeasibility) → b ≡ word (r .objective)
-    → h ≡ (p .infeasibility + a) % 2 ^ 64 → s ≡ (p .objective + b) % 2 ^ 64
-    → record { reply = r; infeasibility = h; objective = s } ≡ withReply p r
-with-is p r a b h s = rw (h, s, a, b)
 
 module _ (season : List ℕ) (b : Buffers) where
   -- the opening alone

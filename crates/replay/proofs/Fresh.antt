@@ -14,10 +14,10 @@ use Rattle.robinx.specs.declared.Constraint.{Constraint}
 use Rattle.robinx.proofs.Passed.{open-no-fault, opens-fresh, passed}
 use Rattle.robinx.proofs.Kept.{hard-held, soft-held}
 use Rattle.robinx.proofs.Demand3.{totals-small, demand-3}
-use Rattle.replay.specs.declared.Played.{Played}
-use Rattle.replay.specs.Word.{word}
+use Rattle.played.specs.declared.Played.{Played}
+use Rattle.played.specs.Word.{word}
 use Rattle.replay.specs.Play.{Fresh, Replays, ReplaysFresh}
-use Rattle.replay.proofs.Words.{word-small}
+use Rattle.played.proofs.Words.{word-small}
 
 -- fresh books hold totals below 2^60
 module _ (season plain : List ℕ) (o : Outcome) (f : Fresh season plain o) where

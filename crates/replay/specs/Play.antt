@@ -1,7 +1,7 @@
 -- An opening and a list of calls after it, made through the exported calls.
 use mathlib.Core.Path.{_≡_}
 use mathlib.Core.List.{List, [], _∷_}
-use Prim.Native.Nat.{ℕ, zero, suc, _+_, _%_, _^_}
+use Prim.Native.Nat.{ℕ, zero, suc, _+_}
 use lib.ListN.{getD}
 use Rattle.robinx.specs.Season.{decode}
 use Rattle.robinx.specs.Calls.{Buffers, outcome, Call, setSlot, exchange, openCall}
@@ -9,8 +9,8 @@ unfoldable pub use Rattle.robinx.specs.Demands.{last, added}
 pub use Rattle.robinx.specs.Demands.{Fresh}
 use Rattle.robinx.specs.PlainSheet.{plainAfter}
 use Rattle.robinx.specs.declared.Reply.{Reply}
-use Rattle.replay.specs.declared.Played.{Played}
-use Rattle.replay.specs.Word.{word}
+use Rattle.played.specs.declared.Played.{Played}
+use Rattle.played.specs.Word.{word}
 
 -- kind 0 is set, any other is exchange
 abbrev pub callOf : ℕ → ℕ → ℕ → Call
@@ -23,17 +23,6 @@ callsOf (kind ∷ first ∷ second ∷ words) = callOf kind first second ∷ cal
 callsOf (kind ∷ first ∷ []) = []
 callsOf (kind ∷ []) = []
 callsOf [] = []
-
--- the first reply, and one reply more
-abbrev pub begun : Reply → Played
-begun r = record { reply = r; infeasibility = word (r .infeasibility); objective = word (r .objective) }
-
-abbrev pub withReply : Played → Reply → Played
-withReply p r = record {
-  reply = r;
-  infeasibility = (p .infeasibility + word (r .infeasibility)) % 2 ^ 64;
-  objective = (p .objective + word (r .objective)) % 2 ^ 64;
-}
 
 -- The reply and the buffers are those of the last call, and each sum is that of the changes of all replies, the opening's first, modulo 2^64.
 -- Nothing is asked of season and buffers.

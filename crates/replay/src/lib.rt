@@ -1,51 +1,9 @@
 // A season opened and then a list of calls made, through the exported calls alone: the last reply, and the changes added up.
 ghost use mathlib.Core.Path.{_≡_};
 ghost use Rattle.robinx.specs.Calls.{buffers, outcome, callOn};
-ghost use Rattle.replay.specs.Word.{word};
-ghost use Rattle.replay.specs.Play.{callOf, callsOf, begun, withReply, Replays};
+ghost use Rattle.replay.specs.Play.{callOf, callsOf, Replays};
+use played::Played;
 use robinx::Reply;
-
-// The last reply, and the sums of the changes of all replies, modulo 2^64.
-pub struct Played {
-    pub reply: Reply,
-    pub infeasibility: u64,
-    pub objective: u64,
-}
-
-// A change modulo 2^64.
-pub fn word(change: i64) -> u64
-    ensures { λ r. ⌜ r ≡ word change ⌝ }
-{
-    if change < 0 {
-        return u64::MAX - ((-1 - change) as u64);
-    }
-    change as u64
-}
-
-impl Played {
-    fn of(opening: Reply) -> Self
-        ensures { λ r. ⌜ r ≡ begun opening ⌝ }
-    {
-        let hard = word(opening.infeasibility);
-        let soft = word(opening.objective);
-        Self {
-            reply: opening,
-            infeasibility: hard,
-            objective: soft,
-        }
-    }
-
-    fn then(mut self, reply: Reply) -> Self
-        ensures { λ r. ⌜ r ≡ withReply self reply ⌝ }
-    {
-        let hard = word(reply.infeasibility);
-        let soft = word(reply.objective);
-        self.reply = reply;
-        self.infeasibility = std::num::wrapping_add_u64(self.infeasibility, hard);
-        self.objective = std::num::wrapping_add_u64(self.objective, soft);
-        self
-    }
-}
 
 // One call of a list: kind 0 is set, any other is exchange.
 fn make(

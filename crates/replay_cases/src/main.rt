@@ -48,7 +48,7 @@ fn print_item(n: u64) {
 }
 
 fn print_change(change: i64) {
-    let word = replay::word(change);
+    let word = played::word(change);
     if change < 0 {
         print_number(b" (-", std::num::wrapping_sub_u64(0, word));
     } else {

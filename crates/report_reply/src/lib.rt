@@ -54,7 +54,7 @@ pub fn open(input: &[u8], ledger: &mut [u32], tally: &mut [u64]) -> Reply
     let season = &input[..end];
     let e = examine(season);
     if e.fault != 0 {
-        return calls::declined(e.fault);
+        return replies::declined(e.fault);
     }
     let entries = e.entries;
     let words = e.sizes.constraints + 2;

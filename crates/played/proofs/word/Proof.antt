@@ -1,8 +1,8 @@
 -- A change below 0 is -1 - n, which is 2^64 - 1 - n modulo 2^64. Assumes nothing.
 use native.Mathlib.Omega.{arith}
-use Rattle.replay.proofs.Words.{Below, below, below-word, NotNegative, from, from-word}
-use Rattle.replay.proofs.word.Statement.{statement}
-use Rattle.replay.proofs.word.Tie as tie
+use Rattle.played.proofs.Words.{Below, below, below-word, NotNegative, from, from-word}
+use Rattle.played.proofs.word.Statement.{statement}
+use Rattle.played.proofs.word.Tie as tie
 
 negative : (c : tie.Then1) → Below (c .before .args .change)
 negative c = below (c .before .args .change) (c .before .fits .change) (c .if1 .taken)

@@ -1,9 +1,9 @@
 -- The first reply's changes are the sums. Assumes nothing.
 use borrow.Author.Needs.{needs}
-use Rattle.replay.proofs.Words.{read-back}
-use Rattle.replay.proofs.CallSteps.{begun-is}
-use Rattle.replay.proofs.Played.of.Statement.{statement}
-use Rattle.replay.proofs.Played.of.Tie as tie
+use Rattle.played.proofs.Words.{read-back}
+use Rattle.played.proofs.ReplyList.{begun-is}
+use Rattle.played.proofs.Played.of.Statement.{statement}
+use Rattle.played.proofs.Played.of.Tie as tie
 
 word-requires : tie.Need-word-requires
 word-requires c κs = search needs

@@ -3,10 +3,10 @@ use native.Mathlib.Omega.{arith}
 use mir.Syntax.{w64}
 use mir.ValLaws.{ofZ-toZ}
 use borrow.Author.Needs.{needs}
-use Rattle.books.proofs.accepted.Statement.{statement}
-use Rattle.books.proofs.accepted.Tie as tie
-use Rattle.books.proofs.accepted.Reads as reads
-use Rattle.books.proofs.accepted.Lts as lts
+use Rattle.replies.proofs.accepted.Statement.{statement}
+use Rattle.replies.proofs.accepted.Tie as tie
+use Rattle.replies.proofs.accepted.Reads as reads
+use Rattle.replies.proofs.accepted.Lts as lts
 use Rattle.totals.proofs.signed.Reads as signed-reads
 
 signed-requires : tie.Need-signed-requires

@@ -1,7 +1,7 @@
 -- Assumes nothing.
 use borrow.Author.Tests.{lt-ltb, le-ltb}
-use Rattle.books.proofs.verdict.Statement.{statement}
-use Rattle.books.proofs.verdict.Tie as tie
+use Rattle.replies.proofs.verdict.Statement.{statement}
+use Rattle.replies.proofs.verdict.Tie as tie
 
 returns : tie.Need-returns
 returns c = rw (lt-ltb _ _ (c .if1 .taken))

@@ -1,9 +1,9 @@
 -- The next reply's changes are added. Assumes nothing.
 use borrow.Author.Needs.{needs}
-use Rattle.replay.proofs.Words.{read-back}
-use Rattle.replay.proofs.CallSteps.{with-is}
-use Rattle.replay.proofs.Played.then.Statement.{statement}
-use Rattle.replay.proofs.Played.then.Tie as tie
+use Rattle.played.proofs.Words.{read-back}
+use Rattle.played.proofs.ReplyList.{with-is}
+use Rattle.played.proofs.Played.then.Statement.{statement}
+use Rattle.played.proofs.Played.then.Tie as tie
 
 word-requires : tie.Need-word-requires
 word-requires c κs = search needs

@@ -10,7 +10,7 @@ use mir.Syntax.{w64}
 use mir.Val.{SFits, toZ, ofZ}
 use mir.Facts.{toZ-ofZ, toZ-pos}
 use borrow.Author.Tests.{ltb-true, ltb-false, le-ltb}
-use Rattle.replay.specs.Word.{word}
+use Rattle.played.specs.Word.{word}
 
 -- a number less another
 word-less : (a b : ℕ) → word (subℕ a (suc b)) ≡ (a % 2 ^ 64 + (2 ^ 64 - 1 - b % 2 ^ 64)) % 2 ^ 64
