@@ -1,4 +1,4 @@
 pub mod Shown
-pub mod Numbers
+pub mod CallNumbers
 pub mod Outcomes
 pub mod Accept

@@ -3,7 +3,7 @@ ghost use mathlib.Core.Path.{_≡_};
 ghost use Prim.Native.Nat.{_<_, _≤_};
 ghost use lib.ListN.{length};
 ghost use Rattle.robinx.specs.Refusals.{firstTrue, sentence12};
-ghost use Rattle.calls.specs.Numbers.{setNumbers, exchangeNumbers};
+ghost use Rattle.calls.specs.CallNumbers.{setNumbers, exchangeNumbers};
 ghost use Rattle.calls.specs.Moves.{moveOf};
 use robinx::Season;
 use touch::Move;

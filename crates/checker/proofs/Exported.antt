@@ -10,7 +10,7 @@ use Rattle.robinx.proofs.Passed.{orElse, fault-of-call}
 use Rattle.tables.specs.Tables.{Tables}
 use Rattle.admission.specs.Admission.{Admits, afterEntry}
 use Rattle.admission.specs.declared.Admission.{Admission}
-use Rattle.calls.proofs.Numbers.{refused, first}
+use Rattle.calls.proofs.CallNumbers.{refusal-is, first-stands}
 
 module _ {s : List ℕ} {t : Tables} {b : Buffers} {r : Admission} (w : Admits s b r t) where
   call-fault : (k : Call) → callFault s b k ≡ orElse (r .fault) (plainFault (decode s) (b .sheet) k)
@@ -18,7 +18,7 @@ module _ {s : List ℕ} {t : Tables} {b : Buffers} {r : Admission} (w : Admits s
 
   pub open-refused : {a : Reply} → (r .fault ≡ 0 → ⊥) → a ≡ declined (r .fault) → outcome a b ≡ openCall s b
   unfolding openCall
-  open-refused some e = rw (← w .number) (refused (r .fault) _ some e)
+  open-refused some e = rw (← w .number) (refusal-is (r .fault) _ some e)
 
   pub open-accepted : {o : Outcome} → r .fault ≡ 0 → o ≡ opened (decode s) (b .sheet) → o ≡ openCall s b
   unfolding openCall
@@ -27,7 +27,7 @@ module _ {s : List ℕ} {t : Tables} {b : Buffers} {r : Admission} (w : Admits s
   -- set and exchange
   pub call-refused : (k : Call) {a : Reply} → (r .fault ≡ 0 → ⊥) → a ≡ declined (r .fault) → outcome a b ≡ callOn s b k
   unfolding callOn
-  call-refused k some e = rw (call-fault k, first (r .fault) (plainFault (decode s) (b .sheet) k) some) (refused (r .fault) _ some e)
+  call-refused k some e = rw (call-fault k, first-stands (r .fault) (plainFault (decode s) (b .sheet) k) some) (refusal-is (r .fault) _ some e)
 
   pub call-passed : (k : Call) {o : Outcome} → r .fault ≡ 0 → o ≡ afterEntry (decode s) b k → o ≡ callOn s b k
   unfolding callOn

@@ -1,4 +1,4 @@
 pub mod Cut
 pub mod Sixth
 pub mod Answered
-pub mod Limit
+pub mod MostDeviations

@@ -4,7 +4,7 @@ use native.Mathlib.Omega.{arith}
 use borrow.Author.Needs.{needs}
 use Rattle.robinx.specs.Calls.{buffers}
 use Rattle.reader.proofs.Read.{games-read}
-use Rattle.calls.proofs.Numbers.{exchange-refused, exchange-passes}
+use Rattle.calls.proofs.CallNumbers.{exchange-refused, exchange-passes}
 use Rattle.calls.proofs.Accept.{as-many-slots}
 use Rattle.exchanges.proofs.exchange.Statement.{statement}
 use Rattle.exchanges.proofs.exchange.Tie as tie

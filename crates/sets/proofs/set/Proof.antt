@@ -5,7 +5,7 @@ use native.Mathlib.Omega.{arith}
 use borrow.Author.Needs.{needs}
 use Rattle.robinx.specs.Season.{decode}
 use Rattle.robinx.specs.Calls.{buffers}
-use Rattle.calls.proofs.Numbers.{set-refused, set-passes}
+use Rattle.calls.proofs.CallNumbers.{set-refused, set-passes}
 use Rattle.calls.proofs.Accept.{few-slots}
 use Rattle.sets.proofs.set.Statement.{statement}
 use Rattle.sets.proofs.set.Tie as tie

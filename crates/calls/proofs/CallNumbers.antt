@@ -19,29 +19,29 @@ use Rattle.robinx.proofs.Passed.{orElse, none-true, first-of-both}
 use Rattle.reader.specs.Sizes.{sizesOf}
 use Rattle.reader.proofs.Read.{games-read, slots-read}
 use Rattle.admission.specs.Admission.{afterEntry}
-use Rattle.calls.specs.Numbers.{setNumbers, exchangeNumbers}
+use Rattle.calls.specs.CallNumbers.{setNumbers, exchangeNumbers}
 
 -- a refusal that comes before all others
-pub refused : {b : Buffers} {a : Reply} (f : ℕ) (done : Outcome) → (f ≡ 0 → ⊥) → a ≡ declined f → outcome a b ≡ unlessRefused f done b
-refused zero done some e = absurd (some refl)
-refused (suc f) done some e = rw e
+pub refusal-is : {b : Buffers} {a : Reply} (f : ℕ) (done : Outcome) → (f ≡ 0 → ⊥) → a ≡ declined f → outcome a b ≡ unlessRefused f done b
+refusal-is zero done some e = absurd (some refl)
+refusal-is (suc f) done some e = rw e
 
-pub first : (f rest : ℕ) → (f ≡ 0 → ⊥) → orElse f rest ≡ f
-first zero rest some = absurd (some refl)
-first (suc f) rest some = refl
+pub first-stands : (f rest : ℕ) → (f ≡ 0 → ⊥) → orElse f rest ≡ f
+first-stands zero rest some = absurd (some refl)
+first-stands (suc f) rest some = refl
 
 -- sentence 13, for the sheet after a call
-abbrev last : List ℕ → Buffers → Call → ℕ
-last s b k = firstTrue (sentence 13 (sentence13 (decode s) (moved (b .sheet) k)) ∷ [])
+abbrev fault13 : List ℕ → Buffers → Call → ℕ
+fault13 s b k = firstTrue (sentence 13 (sentence13 (decode s) (moved (b .sheet) k)) ∷ [])
 
 -- the others of a call have this number
-refused-by : (s : List ℕ) (b : Buffers) (k : Call) {f : ℕ} {a : Reply} → plainFault (decode s) (b .sheet) k ≡ orElse f (last s b k)
+refused-by : (s : List ℕ) (b : Buffers) (k : Call) {f : ℕ} {a : Reply} → plainFault (decode s) (b .sheet) k ≡ orElse f (fault13 s b k)
     → (f ≡ 0 → ⊥) → a ≡ declined f → outcome a b ≡ afterEntry (decode s) b k
-refused-by s b k {f} split some d = rw (split, first f (last s b k) some) (refused f _ some d)
+refused-by s b k {f} split some d = rw (split, first-stands f (fault13 s b k) some) (refusal-is f _ some d)
 
 module _ (s : List ℕ) {z : Season} (e : z ≡ sizesOf s) (b : Buffers) {f : ℕ} (g : ℕ) where
   module _ (slot : ℕ) (is : f ≡ firstTrue (setNumbers z g slot)) where
-    split-set : plainFault (decode s) (b .sheet) (Call.setSlot g slot) ≡ orElse f (last s b (Call.setSlot g slot))
+    split-set : plainFault (decode s) (b .sheet) (Call.setSlot g slot) ≡ orElse f (fault13 s b (Call.setSlot g slot))
     unfolding plainFault sentence9 sentence10
     split-set =
         rw (is, games-read s e, slots-read s e) (first-of-both (sentence 9 (leb (decode s .G) g) ∷ sentence 10 (ltb (decode s .P) slot) ∷ []) _ tt)
@@ -55,7 +55,7 @@ module _ (s : List ℕ) {z : Season} (e : z ≡ sizesOf s) (b : Buffers) {f : �
         (omega (arith, leb-false (z .games) g (c .0), games-read s e), omega (arith, ltb-false (z .slots) slot (c .1 .0), slots-read s e))
 
   module _ (h : ℕ) (is : f ≡ firstTrue (exchangeNumbers z (b .sheet) g h)) where
-    split-exchange : plainFault (decode s) (b .sheet) (Call.exchange g h) ≡ orElse f (last s b (Call.exchange g h))
+    split-exchange : plainFault (decode s) (b .sheet) (Call.exchange g h) ≡ orElse f (fault13 s b (Call.exchange g h))
     unfolding plainFault sentence9
     split-exchange =
         rw (is, games-read s e)
