@@ -1,4 +1,4 @@
--- The sentences about the numbers of a call that need no tables (FORMAT 5), by the sizes that were read: all but 13.
+-- The sentences about the numbers of a set and of an exchange that need no tables (FORMAT 6), by the sizes that were read: all but 13.
 use mathlib.Core.List.{List, [], _∷_}
 use mathlib.Core.Bool.{_||_}
 use Prim.Native.Nat.{ℕ}

@@ -1,4 +1,4 @@
--- Figures of two teams.
+-- How close the meetings of two teams are (SE1).
 use Prim.Native.Nat.{ℕ}
 use Rattle.robinx.specs.Sums.{sumTo}
 use Rattle.robinx.specs.Timetable.{X, meet}

@@ -4,7 +4,7 @@ ghost use mathlib.Core.Path.{_≡_};
 ghost use mathlib.Core.Bool.{_||_};
 ghost use Prim.Native.Nat.{suc, _<_};
 ghost use Rattle.robinx.specs.Season.{mostTeams, mostSlots};
-ghost use Rattle.tables.specs.Tables.{tables, cell, busy, joinedAt, withoutAt, takenOutOf, Tried};
+ghost use Rattle.tables.specs.Tables.{tables, busy, takenOutOf, Tried};
 use robinx::Season;
 use robinx::Slots;
 
@@ -20,38 +20,6 @@ fn busy(home: &[Slots; Season::TEAMS], away: &[Slots; Season::TEAMS], t: usize, 
     ensures { λ r. ⌜ r ≡ busy (now (home .entry)) (now (away .entry)) t k ⌝ }
 {
     either(masks::is_in(home[t], k), masks::is_in(away[t], k))
-}
-
-// Slot k of a team, set and cleared.
-fn join_row(row: &mut [Slots; Season::TEAMS], t: usize, k: u64)
-    requires { ⌜ (t < mostTeams) × (k < mostSlots) ⌝ }
-    ensures { λ _. ⌜ now (row .exit) ≡ joinedAt (now (row .entry)) t k ⌝ }
-{
-    row[t] = masks::joined(row[t], k);
-}
-
-fn clear_row(row: &mut [Slots; Season::TEAMS], t: usize, k: u64)
-    requires { ⌜ (t < mostTeams) × (k < mostSlots) ⌝ }
-    ensures { λ _. ⌜ now (row .exit) ≡ withoutAt (now (row .entry)) t k ⌝ }
-{
-    row[t] = masks::without(row[t], k);
-}
-
-// .. of i hosting j.
-fn join_cell(meets: &mut [Slots; Season::PLACES], i: usize, j: usize, k: u64)
-    requires { ⌜ (i < mostTeams) × (j < mostTeams) × (k < mostSlots) ⌝ }
-    ensures { λ _. ⌜ now (meets .exit) ≡ joinedAt (now (meets .entry)) (cell i j) k ⌝ }
-{
-    let q = i * Season::TEAMS + j;
-    meets[q] = masks::joined(meets[q], k);
-}
-
-fn clear_cell(meets: &mut [Slots; Season::PLACES], i: usize, j: usize, k: u64)
-    requires { ⌜ (i < mostTeams) × (j < mostTeams) × (k < mostSlots) ⌝ }
-    ensures { λ _. ⌜ now (meets .exit) ≡ withoutAt (now (meets .entry)) (cell i j) k ⌝ }
-{
-    let q = i * Season::TEAMS + j;
-    meets[q] = masks::without(meets[q], k);
 }
 
 // Puts i at home against j into slot k, or says that one of them is busy there and changes nothing.
@@ -70,9 +38,10 @@ pub fn place(
     if either(busy(&*home, &*away, i, k), busy(&*home, &*away, j, k)) {
         return false;
     }
-    join_row(home, i, k);
-    join_row(away, j, k);
-    join_cell(meets, i, j, k);
+    home[i] = masks::joined(home[i], k);
+    away[j] = masks::joined(away[j], k);
+    let q = i * Season::TEAMS + j;
+    meets[q] = masks::joined(meets[q], k);
     true
 }
 
@@ -89,7 +58,8 @@ pub fn lift(
     ensures { λ _. ⌜ tables (now (home .exit)) (now (away .exit)) (now (meets .exit))
         ≡ takenOutOf i j (suc k) (tables (now (home .entry)) (now (away .entry)) (now (meets .entry))) ⌝ }
 {
-    clear_row(home, i, k);
-    clear_row(away, j, k);
-    clear_cell(meets, i, j, k);
+    home[i] = masks::without(home[i], k);
+    away[j] = masks::without(away[j], k);
+    let q = i * Season::TEAMS + j;
+    meets[q] = masks::without(meets[q], k);
 }
