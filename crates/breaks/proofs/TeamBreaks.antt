@@ -3,24 +3,22 @@ use mathlib.Core.Path.{_≡_, refl, sym, ap, ap₂, _∙_}
 use mathlib.Core.Bool.{Bool, true, false, _&&_}
 use Prim.Native.Nat.{ℕ, _+_, _^_, _<_, _≤_}
 use native.Mathlib.Omega.{arith}
-use native.Mathlib.Nat.{add-zero, zero-add}
 use lib.Bits.{bitOr}
-use lib.Dec.{eqb, ltb}
 use lib.ListN.{getD}
 use Rattle.robinx.specs.Season.{mostSlots, slotsOf}
 use Rattle.robinx.specs.Sums.{only}
-use Rattle.robinx.specs.Groups.{bit, has}
-use Rattle.robinx.specs.Timetable.{side, homeSide, awaySide, anySide, gamesWith, gamesIn, plays, breakOn, breaksIn}
+use Rattle.robinx.specs.Groups.{has}
+use Rattle.robinx.specs.Timetable.{side, homeSide, awaySide, anySide, gamesIn, breakOn, breaksIn}
 use Rattle.robinx.specs.Deviations.{over, breaks}
 use Rattle.robinx.specs.declared.Constraint.{Constraint}
 use Rattle.robinx.proofs.Sums.{only-bound, only-le, sum-add, sum-zero, sum-bound}
 use Rattle.robinx.proofs.Ext.{sum-ext, over-ext, lastWas-ext}
 use Rattle.masks.specs.Masks.{isBreak}
-use Rattle.robinx.proofs.Bits.{at-bits}
 use Rattle.masks.proofs.Width.{over-stop}
 use Rattle.tables.specs.Tables.{Tables, Tied, xOf}
 use Rattle.opponents.specs.Games.{MaskOf}
 use Rattle.opponents.proofs.Games.{sides-mask}
+use Rattle.opponents.proofs.Plays.{home-mask, away-mask, plays-mask}
 
 -- Sums over the slots of a group.
 pub over-le : (P S : ℕ) (q : ℕ → Bool) → over P S (λ k. only (q k) 1) ≤ P
@@ -45,9 +43,6 @@ unfolding over
 over-asked P S true q = refl
 over-asked P S false q = sum-zero P (λ k l. only-none (has S k))
 
-some : (m k : ℕ) → ltb 0 (bit m k) ≡ has m k
-some m k = at-bits (λ x y. ltb 0 x ≡ eqb x 1) refl refl refl refl m m k
-
 module _ {n : ℕ} {ts : Tables} (tied : Tied n ts) (t : ℕ) (lt : t < n) where
   abbrev h : ℕ
   h = getD (ts .home) t 0
@@ -55,27 +50,14 @@ module _ {n : ℕ} {ts : Tables} (tied : Tied n ts) (t : ℕ) (lt : t < n) where
   abbrev a : ℕ
   a = getD (ts .away) t 0
 
-  home-mask : MaskOf (gamesIn n (xOf (ts .meets)) homeSide t) h
-  unfolding gamesIn gamesWith
-  home-mask k l = tied .home-row t k lt l ∙ sum-ext n (λ j lj. sym (add-zero (xOf (ts .meets) t j k)))
-
-  away-mask : MaskOf (gamesIn n (xOf (ts .meets)) awaySide t) a
-  unfolding gamesIn gamesWith
-  away-mask k l = tied .away-row t k lt l ∙ sum-ext n (λ j lj. sym (zero-add (xOf (ts .meets) j t k)))
-
-  module _ (d m : ℕ) (mask : MaskOf (gamesIn n (xOf (ts .meets)) d t) m) where
-    plays-mask : (k : ℕ) → k < mostSlots → plays n (xOf (ts .meets)) d t k ≡ has m k
-    unfolding plays
-    plays-mask k l = ap (ltb 0) (sym (mask k l)) ∙ some m k
-
   -- the breaks of one side
   break-mask : (d m : ℕ) → MaskOf (gamesIn n (xOf (ts .meets)) d t) m → (k : ℕ) → k < mostSlots
       → isBreak m (bitOr h a) k ≡ breakOn n (xOf (ts .meets)) d t k
   unfolding breakOn
   break-mask d m mask k l =
-      sym (ap₂ _&&_ (plays-mask d m mask k l)
-      (lastWas-ext k (λ b lb. plays-mask anySide (bitOr h a) (sides-mask tied anySide t lt) b (omega arith))
-      (λ b lb. plays-mask d m mask b (omega arith))))
+      sym (ap₂ _&&_ (plays-mask tied t lt d m mask k l)
+      (lastWas-ext k (λ b lb. plays-mask tied t lt anySide (bitOr h a) (sides-mask tied anySide t lt) b (omega arith))
+      (λ b lb. plays-mask tied t lt d m mask b (omega arith))))
 
   side-breaks : (P S d m : ℕ) (asked : Bool) → P ≤ mostSlots → S < 2 ^ P → MaskOf (gamesIn n (xOf (ts .meets)) d t) m
       → only asked (over mostSlots S (λ k. only (isBreak m (bitOr h a) k) 1)) ≡ over P S (λ k. only (asked && breakOn n (xOf (ts .meets)) d t k) 1)
@@ -92,6 +74,6 @@ module _ {n : ℕ} {ts : Tables} (tied : Tied n ts) (t : ℕ) (lt : t < n) where
   unfolding breaks breaksIn
   team-breaks P c lp ls =
       ap₂ _+_
-      (side-breaks P (slotsOf c) homeSide h (has (side (c .mode)) 0) lp ls home-mask)
-      (side-breaks P (slotsOf c) awaySide a (has (side (c .mode)) 1) lp ls away-mask)
+      (side-breaks P (slotsOf c) homeSide h (has (side (c .mode)) 0) lp ls (home-mask tied t lt))
+      (side-breaks P (slotsOf c) awaySide a (has (side (c .mode)) 1) lp ls (away-mask tied t lt))
       ∙ sym (over-add P (slotsOf c) _ _)

@@ -1,3 +1,4 @@
 pub mod Fillable
 pub mod Games
+pub mod Plays
 pub mod Gathered
