@@ -8,6 +8,7 @@ pub mod GroupSizes
 pub mod Bits
 pub mod SetBits
 pub mod Stops
+pub mod Trips
 pub mod Lengths
 pub mod Filled
 pub mod Agree

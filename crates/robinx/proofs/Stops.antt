@@ -15,7 +15,7 @@ module _ (P N : ℕ) (l : P ≤ N) where
       go zero h = rw add-zero s
       go (suc j) h = let e : P + j + 1 ≡ P + suc j = omega arith in subst F e (keep (P + j) (omega arith) (omega arith) (go j (omega arith)))
 
-  pub stop : (F : ℕ → ℕ) → ((k : ℕ) → P ≤ k → k < N → F (suc k) ≡ F k) → F N ≡ F P
+  pub stop : {A : Type 0} (F : ℕ → A) → ((k : ℕ) → P ≤ k → k < N → F (suc k) ≡ F k) → F N ≡ F P
   stop F same = passed (λ k. F k ≡ F P) (λ k a b e. ap F (add-one k) ∙ same k a b ∙ e) refl
 
   pub sum-stop : (f : ℕ → ℕ) → ((k : ℕ) → P ≤ k → k < N → f k ≡ 0) → sumTo f N ≡ sumTo f P

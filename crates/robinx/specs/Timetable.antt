@@ -78,6 +78,28 @@ breakOn n x d t k = plays n x d t k && lastWas (plays n x anySide t) (plays n x 
 unfoldable pub breaksIn : ℕ → X → ℕ → ℕ → ℕ → ℕ
 breaksIn n x d t k = only (has d 0 && breakOn n x homeSide t k) 1 + only (has d 1 && breakOn n x awaySide t k) 1
 
+-- Trips (FORMAT 3.2; RobinX, BR4 and CA5) of a team that plays away in the slots of one test and at home in those of the other: runs of away
+-- games, slots without a game skipped. One starts in slot a: the team plays away there, and did not in its last game before.
+unfoldable pub startsTrip : (ℕ → Bool) → (ℕ → Bool) → ℕ → Bool
+startsTrip away home a = away a && not (lastWas (λ k. away k || home k) away a)
+
+-- slot k is one of the run that starts in a: an away game, and no home game from a to it
+unfoldable pub onTrip : (ℕ → Bool) → (ℕ → Bool) → ℕ → ℕ → Bool
+onTrip away home a k = leb a k && away k && not (anyTo (λ i. leb a i && home i) (suc k))
+
+-- the sum of f over its slots
+unfoldable pub alongTrip : (ℕ → Bool) → (ℕ → Bool) → ℕ → ℕ → (ℕ → ℕ) → ℕ
+alongTrip away home P a f = sumTo (λ k. only (onTrip away home a k) (f k)) P
+
+-- the run is a trip that counts: it has two games or more, and its first and its last slot are in S
+unfoldable pub tripCounts : (ℕ → Bool) → (ℕ → Bool) → ℕ → ℕ → ℕ → Bool
+tripCounts away home P S a =
+    startsTrip away home a && has S a && leb 2 (alongTrip away home P a (λ k. 1)) && lastWas (onTrip away home a) (has S) P
+
+-- the sum of f over the trips that count, by their first slots
+unfoldable pub overTrips : (ℕ → Bool) → (ℕ → Bool) → ℕ → ℕ → (ℕ → ℕ) → ℕ
+overTrips away home P S f = sumTo (λ a. only (tripCounts away home P S a) (f a)) P
+
 -- teams i and j meet in slot k
 unfoldable pub meet : X → ℕ → ℕ → ℕ → Bool
 meet x i j k = ltb 0 (x i j k + x j i k)
