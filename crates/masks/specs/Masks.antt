@@ -1,8 +1,9 @@
 -- Masks of slots as plain numbers of any width.
 use mathlib.Core.Path.{_≡_}
-use mathlib.Core.Bool.{Bool, _&&_}
+use mathlib.Core.Bool.{Bool, true, false, _&&_}
 use Prim.Native.Nat.{ℕ, _^_, _<_, _≤_}
 use lib.Bits.{bitOr, bitXor}
+use Rattle.robinx.specs.Season.{mostSlots}
 use Rattle.robinx.specs.Sums.{only}
 use Rattle.robinx.specs.Groups.{bit, has}
 use Rattle.robinx.specs.Timetable.{lastWas}
@@ -18,6 +19,17 @@ without m k = bitXor (bitOr m (2 ^ k)) (2 ^ k)
 -- every slot of m is one of n
 abbrev pub Within : ℕ → ℕ → Type 0
 Within m n = (k : ℕ) → bit m k ≤ bit n k
+
+-- of the first n slots the mask has those that pass the test
+abbrev pub Marks : ℕ → (ℕ → Bool) → ℕ → Type 0
+Marks n p m = (k : ℕ) → k < n → has m k ≡ p k
+
+-- r is the first slot of m from a on, or 64 and there is none
+pub record FirstFrom (m a r : ℕ) : Type 0 where
+  pub from : a ≤ r
+  pub within : r ≤ mostSlots
+  pub clear : (k : ℕ) → a ≤ k → k < r → has m k ≡ false
+  pub found : r < mostSlots → has m r ≡ true
 
 -- slot k has a game of the side, and the last game before it was of the side too
 abbrev pub isBreak : ℕ → ℕ → ℕ → Bool

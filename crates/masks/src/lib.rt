@@ -1,14 +1,16 @@
 // Masks of slots: bit k of a u64 stands for slot k, counted from 0. Everything that knows that a mask is one word is in here.
 ghost use mathlib.Core.Path.{_≡_};
+ghost use mathlib.Core.Bool.{_&&_};
 ghost use Prim.Native.Nat.{_-_, _/_, _%_, _<_, _≤_, _^_};
-ghost use lib.Bits.{bitOr};
+ghost use lib.Bits.{bitAnd, bitOr};
 ghost use lib.Count.{ones};
-ghost use lib.Dec.{eqb, leb};
+ghost use lib.Dec.{eqb, leb, ltb};
 ghost use Rattle.robinx.specs.Season.{mostSlots};
 ghost use Rattle.robinx.specs.Sums.{only, sumTo};
 ghost use Rattle.robinx.specs.Groups.{bit, has, reaches};
+ghost use Rattle.robinx.specs.Timetable.{lastWas, startsTrip};
 ghost use Rattle.robinx.specs.Deviations.{over, tooClose};
-ghost use Rattle.masks.specs.Masks.{joined, without, Within, isBreak, Breaks};
+ghost use Rattle.masks.specs.Masks.{joined, without, Within, isBreak, Breaks, Marks, FirstFrom};
 use robinx::Season;
 use robinx::Slots;
 
@@ -136,6 +138,33 @@ pub fn union(m: Slots, n: Slots) -> Slots
     m | n
 }
 
+// The slots of both masks.
+pub fn common(m: Slots, n: Slots) -> Slots
+    ensures { λ r. ⌜ r ≡ bitAnd m n ⌝ }
+{
+    m & n
+}
+
+// The first slot of a mask that has one.
+pub fn first(m: Slots) -> u64
+    requires { ⌜ 0 < m ⌝ }
+    ensures { λ r. ⌜ (r < mostSlots) × FirstFrom m 0 r ⌝ }
+{
+    u64::trailing_zeros(m) as u64
+}
+
+// The mask's first slot from a on; 64 if there is none.
+pub fn first_from(m: Slots, a: u64) -> u64
+    requires { ⌜ a < mostSlots ⌝ }
+    ensures { λ r. ⌜ FirstFrom m a r ⌝ }
+{
+    let rest = m >> a;
+    if rest == 0 {
+        return Season::SLOTS as u64;
+    }
+    a + u64::trailing_zeros(rest) as u64
+}
+
 // The mask's slots among the first p.
 pub fn front(m: Slots, p: u64) -> Slots
     requires { ⌜ p ≤ mostSlots ⌝ }
@@ -145,6 +174,22 @@ pub fn front(m: Slots, p: u64) -> Slots
         return m;
     }
     m & (slot(p) - 1)
+}
+
+// The mask's slots from a on and before b.
+pub fn stretch(m: Slots, a: u64, b: u64) -> Slots
+    requires { ⌜ (a ≤ b) × (b ≤ mostSlots) ⌝ }
+    ensures { λ r. ⌜ Marks mostSlots (λ k. leb a k && ltb k b && has m k) r ⌝ }
+{
+    front(m, b) ^ front(m, a)
+}
+
+// The mask's last slot is in s; a mask without one has none there. Of its slots in s and the others, those with the last one are the larger number.
+pub fn last_in(m: Slots, s: Slots) -> bool
+    ensures { λ r. ⌜ r ≡ lastWas (has m) (has s) mostSlots ⌝ }
+{
+    let inside = m & s;
+    (m ^ inside) < inside
 }
 
 // How many slots of m are in s.
@@ -168,6 +213,13 @@ pub fn breaks_in(side: Slots, all: Slots, s: Slots) -> u32
     ensures { λ r. ⌜ r ≡ over mostSlots s (λ k. only (isBreak side all k) 1) ⌝ }
 {
     count_in(break_mask(side, all), s)
+}
+
+// The first slots of the runs of away games: those of away games that are no break.
+pub fn trip_starts(away: Slots, home: Slots) -> Slots
+    ensures { λ r. ⌜ Marks mostSlots (startsTrip (has away) (has home)) r ⌝ }
+{
+    away ^ break_mask(away, union(away, home))
 }
 
 // How much closer than w slots two games are that are gap slots apart.
