@@ -1,4 +1,4 @@
--- The kind of a constraint that keeps the rules is one of the ten. Assumes nothing.
+-- The kind of a constraint that keeps the rules is one of the twelve. Assumes nothing.
 use mathlib.Core.Path.{_≡_, sym, ap, _∙_}
 use mathlib.Core.List.{List}
 use Prim.Native.Nat.{ℕ, _<_, _≤_}

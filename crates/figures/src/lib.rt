@@ -8,7 +8,7 @@ use robinx::Constraint;
 use robinx::Season;
 use robinx::Slots;
 
-// Capacity: CA1 to CA4.
+// Capacity: CA1 to CA5.
 fn fill_capacity(
     c: Constraint,
     n: usize,
@@ -27,11 +27,12 @@ fn fill_capacity(
         12 => counts::fill_counts(c, n, p, home, away, meets, out),
         13 => counts::fill_runs(c, n, p, home, away, meets, out),
         14 => between::fill_ca4(c, n, p, home, away, meets, out),
+        15 => trips::fill_trips(c, n, p, home, away, meets, out),
         _ => {}
     }
 }
 
-// Breaks: BR1 and BR2.
+// Breaks: BR1, BR2 and BR4.
 fn fill_break(
     c: Constraint,
     n: usize,
@@ -48,6 +49,7 @@ fn fill_break(
     match kind {
         31 => breaks::fill_breaks(c, n, p, home, away, meets, out),
         32 => breaks::fill_all_breaks(c, n, p, home, away, meets, out),
+        34 => trips::fill_trips(c, n, p, home, away, meets, out),
         _ => {}
     }
 }

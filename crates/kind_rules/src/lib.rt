@@ -25,6 +25,7 @@ fn capacity_obeys(c: Constraint, n: usize, p: usize) -> bool
         12 => keeps(1, 3, YES, UpToKmax, Any, Zero, Some, Some, 1, YES, c, n, p),
         13 => keeps(1, 3, YES, UpToKmax, Any, Some, Some, Zero, 1, NO, c, n, p),
         14 => keeps(1, 6, YES, UpToKmax, Any, Zero, Some, Some, 2, NO, c, n, p),
+        15 => keeps(2, 2, YES, UpToKmax, Any, Zero, Some, Some, 1, NO, c, n, p),
         _ => false,
     }
 }
@@ -48,6 +49,7 @@ fn break_obeys(c: Constraint, n: usize, p: usize) -> bool
     match kind {
         31 => keeps(1, 6, YES, Zero, Any, Zero, Zero, Some, 1, NO, c, n, p),
         32 => keeps(1, 6, YES, Zero, Some, Zero, Zero, Some, 2, NO, c, n, p),
+        34 => keeps(2, 2, YES, Any, Zero, Zero, Zero, Some, 1, NO, c, n, p),
         _ => false,
     }
 }

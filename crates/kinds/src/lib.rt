@@ -51,6 +51,7 @@ fn capacity_form(kind: u8) -> Form
         12 => form(EachTeam, Across, InS),
         13 => form(EachTeam, Across, AnySlot),
         14 => form(OneOrEachSlot, Across, InS),
+        15 => form(EachTeam, OneInT1, AnySlot),
         _ => no_form(),
     }
 }
@@ -72,6 +73,7 @@ fn break_form(kind: u8) -> Form
     match kind {
         31 => form(EachTeam, OneInT1, UpToLastOfS),
         32 => form(One, OneInT1, UpToLastOfS),
+        34 => form(EachTeam, OneInT1, AnySlot),
         _ => no_form(),
     }
 }

@@ -11,11 +11,12 @@ use Rattle.robinx.specs.Groups.{has, reaches}
 use Rattle.robinx.specs.Timetable.{X, side, homeSide, awaySide, anySide, firstModes}
 use Rattle.robinx.specs.Timetable.{gamesWith, gamesIn, gamesAgainst, gamesUpTo, between, gamesBetween, plays, breakOn, breaksIn, meet}
 use Rattle.robinx.specs.Kinds.{Kind, kindOf, formOf, formAt}
-use Rattle.robinx.specs.Deviations.{outside, offTarget, inRun, breaks, tooClose, deviationsOf, deviations}
-use Rattle.robinx.specs.Deviations.{devCA1, devCA2, devCA3, devCA4, devGA1, devBR1, devBR2, devFA1, devFA2, devSE1}
+use Rattle.robinx.specs.Deviations.{outside, offTarget, inRun, trips, tripGames, breaks, tooClose, deviationsOf, deviations}
+use Rattle.robinx.specs.Deviations.{devCA1, devCA2, devCA3, devCA4, devCA5, devGA1, devBR1, devBR2, devBR4, devFA1, devFA2, devSE1}
 use Rattle.robinx.specs.Touch.{teamsTouch, slotTouches, scopeOf, scope}
 use Rattle.robinx.specs.declared.Constraint.{Constraint}
 use Rattle.robinx.proofs.Ext.{only-ext, sum-ext, each-ext, eachPair-ext, over-ext, worst-ext, has-reaches, lastWas-ext, lastSlot-ext}
+use Rattle.robinx.proofs.Trips.{alongTrip-ext, overTrips-ext}
 
 abbrev pub Agree : (ℕ → ℕ → ℕ → Bool) → ℕ → ℕ → X → X → Type 0
 Agree r n P x y = (i j k : ℕ) → i < n → j < n → k < P → r i j k ≡ true → x i j k ≡ y i j k
@@ -77,6 +78,20 @@ module _ (n P : ℕ) (x y : X) where
     unfolding breaksIn
     breaksIn-agree d = rw (breakOn-agree homeSide, breakOn-agree awaySide)
 
+  -- team t has the same games in all slots
+  module _ (c : Constraint) (t : ℕ) (h : (k j : ℕ) → k < P → j < n → Same x y t j k) where
+    side-agree : (d k : ℕ) → k < P → plays n x d t k ≡ plays n y d t k
+    side-agree d k l = plays-agree t k (λ a j la lj. h a j (omega arith) lj) d k (omega arith)
+
+    tripGames-agree : (a : ℕ) → tripGames n P c x t a ≡ tripGames n P c y t a
+    unfolding tripGames
+    tripGames-agree a =
+        alongTrip-ext P (side-agree awaySide) (side-agree homeSide) a (λ k l. gamesAgainst-agree awaySide (c .t2) t k (λ j lj b. h k j l lj))
+
+    trips-agree : {f g : ℕ → ℕ} → ((a : ℕ) → f a ≡ g a) → trips n P c x t f ≡ trips n P c y t g
+    unfolding trips
+    trips-agree e = overTrips-ext P (side-agree awaySide) (side-agree homeSide) (slotsOf c) (λ a l. e a)
+
   meet-agree : (i j k : ℕ) → Same x y i j k → meet x i j k ≡ meet y i j k
   unfolding meet
   meet-agree i j k h = ap₂ (λ (a b : ℕ). ltb 0 (a + b)) (h .0) (h .1)
@@ -124,6 +139,19 @@ module _ (n P : ℕ) (x y : X) where
         same k lk s = gamesBetween-agree _ (c .t1) (c .t2) k (λ i j li lj b.
             h i j k li lj lk (counted (has d 0) (has d 1) (has (c .t1) i && has (c .t2) j) _ _ b s))
 
+    -- in the scope of both kinds of trips a team of T1 has all its games
+    team-agree : Agree (scopeOf (formOf Kind.BR4) c) n P x y → (t : ℕ) → t < n → has (c .t1) t ≡ true
+        → (k j : ℕ) → k < P → j < n → Same x y t j k
+    unfolding formOf scopeOf teamsTouch slotTouches
+    team-agree h t lt m k j lk lj = (h t j k lt lj lk (simp m), h j t k lj lt lk (simp (m, or-true)))
+
+    pub agreeCA5 : Agree (scopeOf (formOf Kind.CA5) c) n P x y → devCA5 n P c x ≡ devCA5 n P c y
+    unfolding devCA5 formOf scopeOf
+    agreeCA5 h =
+        each-ext n (c .t1) (λ t lt m.
+        let same = team-agree h t lt m in
+        trips-agree c t same (λ a. ap (outside (c .kmin) (c .kmax)) (tripGames-agree c t same a)))
+
     pub agreeGA1 : Agree (scopeOf (formOf Kind.GA1) c) n P x y → devGA1 n P c x ≡ devGA1 n P c y
     unfolding devGA1 between formOf scopeOf teamsTouch slotTouches
     agreeGA1 h = ap (λ (v : ℕ). outside (c .kmin) (c .kmax) v ∷ []) (over-ext P (slotsOf c) (λ k lk s.
@@ -144,6 +172,11 @@ module _ (n P : ℕ) (x y : X) where
     agreeBR2 h =
         ap (λ (v : ℕ). offTarget (firstModes (c .mode)) (c .kmax) v ∷ [])
         (sum-ext n (λ t lt. only-ext (has (c .t1) t) (breaks-agree h t lt)))
+
+    pub agreeBR4 : Agree (scopeOf (formOf Kind.BR4) c) n P x y → devBR4 n P c x ≡ devBR4 n P c y
+    unfolding devBR4
+    agreeBR4 h =
+        each-ext n (c .t1) (λ t lt m. ap (λ (v : ℕ). c .kmin - v) (trips-agree c t (team-agree h t lt m) {f = λ a. 1} (λ a. refl)))
 
     upTo-agree : Agree (scopeOf (formOf Kind.FA1) c) n P x y → (d t : ℕ) → t < n → has (c .t1) t ≡ true
         → (k : ℕ) → k < P → has (slotsOf c) k ≡ true → gamesUpTo n x d (c .t1) t (suc k) ≡ gamesUpTo n y d (c .t1) t (suc k)
@@ -175,9 +208,11 @@ module _ (n P : ℕ) (x y : X) where
     agreeOf Kind.CA2 h = agreeCA2 h
     agreeOf Kind.CA3 h = agreeCA3 h
     agreeOf Kind.CA4 h = agreeCA4 h
+    agreeOf Kind.CA5 h = agreeCA5 h
     agreeOf Kind.GA1 h = agreeGA1 h
     agreeOf Kind.BR1 h = agreeBR1 h
     agreeOf Kind.BR2 h = agreeBR2 h
+    agreeOf Kind.BR4 h = agreeBR4 h
     agreeOf Kind.FA1 h = agreeFA1 h
     agreeOf Kind.FA2 h = agreeFA2 h
     agreeOf Kind.SE1 h = agreeSE1 h

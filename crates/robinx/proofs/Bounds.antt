@@ -11,16 +11,17 @@ use lib.ListN.{length, getD}
 use Rattle.robinx.specs.Sums.{sumTo, catTo, only, onlyL}
 use Rattle.robinx.specs.Season.{slotsOf, mostTeams, mostSlots, mostByte}
 use Rattle.robinx.specs.Groups.{has, size, isPair, pairs}
-use Rattle.robinx.specs.Timetable.{X, side, homeSide, awaySide, firstModes, gamesWith, gamesIn, gamesAgainst, gamesUpTo, between, gamesBetween, breakOn, breaksIn, meet}
+use Rattle.robinx.specs.Timetable.{X, side, homeSide, awaySide, firstModes, gamesWith, gamesIn, gamesAgainst, gamesUpTo, between, gamesBetween, plays, breakOn, breaksIn, meet}
 use Rattle.robinx.specs.Kinds.{Kind, kindOf, formAt}
-use Rattle.robinx.specs.Deviations.{each, eachPair, over, worst, offTarget, inRun, breaks, tooClose, deviationsOf, deviations, inShape, entries}
-use Rattle.robinx.specs.Deviations.{devCA1, devCA2, devCA3, devCA4, devGA1, devBR1, devBR2, devFA1, devFA2, devSE1}
+use Rattle.robinx.specs.Deviations.{each, eachPair, over, worst, outside, offTarget, inRun, trips, tripGames, breaks, tooClose, deviationsOf, deviations, inShape, entries}
+use Rattle.robinx.specs.Deviations.{devCA1, devCA2, devCA3, devCA4, devCA5, devGA1, devBR1, devBR2, devBR4, devFA1, devFA2, devSE1}
 use Rattle.robinx.specs.Penalty.{sum, sumOfSquares, largest, smallest, combine, penalty}
 use Rattle.robinx.specs.declared.Constraint.{Constraint}
 use Rattle.robinx.specs.declared.Shape.{Shape}
 use Rattle.robinx.specs.declared.Shape.the-variants.{Nothing, One, EachTeam, EachPair, OneOrEachSlot}
 use Rattle.robinx.proofs.Sums.{only-le, only-bound, sum-le, sum-bound, max-bound, sum-scale, sum-swap}
 use Rattle.robinx.proofs.GroupSizes.{size-le, pairs-size}
+use Rattle.robinx.proofs.Trips.{alongTrip-le, overTrips-le}
 
 -- Lists of any numbers.
 sum-append : (a b : List ℕ) → sum (a ++ b) ≡ sum a + sum b
@@ -177,6 +178,15 @@ module _ (n P : ℕ) (teams : n ≤ mostTeams) (slots : P ≤ mostSlots) (x : X)
     unfolding breaks
     breaks-le t = over-le 2 (λ k l. breaksIn-le d t k)
 
+    -- at most a trip a slot, with games in as many
+    trips-le : (t : ℕ) → t < n → trips n P c x t (λ a. outside (c .kmin) (c .kmax) (tripGames n P c x t a)) ≤ 65 * mostByte
+    unfolding trips tripGames
+    trips-le t lt =
+        le-trans
+        (overTrips-le (plays n x awaySide t) (plays n x homeSide t) P (slotsOf c) 255 (λ a la.
+        omega (arith, alongTrip-le (plays n x awaySide t) (plays n x homeSide t) P a (λ k lk. gamesAgainst-le awaySide (c .t2) t k lt lk))))
+        (omega arith)
+
     off-le : (b : Bool) (B : ℕ) {v : ℕ} → v ≤ B → 255 ≤ B → offTarget b (c .kmax) v ≤ B
     off-le true B h l = omega arith
     off-le false B h l = omega arith
@@ -186,7 +196,7 @@ module _ (n P : ℕ) (teams : n ≤ mostTeams) (slots : P ≤ mostSlots) (x : X)
     teams-le T h = omega (arith, each-bound n T (65 * mostByte) h)
 
     boundOf : (k : Kind) → sum (deviationsOf k n P c x) ≤ 530400
-    unfolding deviationsOf devCA1 devCA2 inRun devCA3 devCA4 devGA1 devBR1 devBR2 devFA1 devFA2 devSE1 sum
+    unfolding deviationsOf devCA1 devCA2 inRun devCA3 devCA4 devCA5 devGA1 devBR1 devBR2 devBR4 devFA1 devFA2 devSE1 sum
     boundOf Kind.CA1 = teams-le (c .t1) (λ t lt. omega (arith, over-le 1 (λ k lk. gamesIn-le d t k lt lk)))
     boundOf Kind.CA2 = teams-le (c .t1) (λ t lt. omega (arith, over-le 1 (λ k lk. gamesAgainst-le d (c .t2) t k lt lk)))
     boundOf Kind.CA3 = teams-le (c .t1) (λ t lt. le-trans
@@ -196,6 +206,7 @@ module _ (n P : ℕ) (teams : n ≤ mostTeams) (slots : P ≤ mostSlots) (x : X)
         cond-le sum (firstModes (c .mode)) _ _
         (omega (arith, over-le mostTeams (λ k lk. gamesBetween-le d (c .t1) (c .t2) k lk)))
         (le-trans (each-bound P (slotsOf c) 255 (λ k lk. omega (arith, gamesBetween-le d (c .t1) (c .t2) k lk))) (omega arith))
+    boundOf Kind.CA5 = teams-le (c .t1) trips-le
     boundOf Kind.GA1 = omega (arith, over-le mostTeams (λ k lk. gamesBetween-le homeSide (c .t1) (c .t2) k lk))
     boundOf Kind.BR1 = teams-le (c .t1) (λ t lt. off-le (firstModes (c .mode)) (65 * mostByte) (omega (arith, breaks-le t)) (omega arith))
     boundOf Kind.BR2 =
@@ -204,6 +215,7 @@ module _ (n P : ℕ) (teams : n ≤ mostTeams) (slots : P ≤ mostSlots) (x : X)
           off-le (firstModes (c .mode)) (mostTeams * 128)
               (le-trans (sum-bound n 128 (λ t lt. only-bound (has (c .t1) t) (breaks-le t))) (omega arith)) (omega arith),
         )
+    boundOf Kind.BR4 = teams-le (c .t1) (λ t lt. omega arith)
     boundOf Kind.FA1 =
         teams-le (c .t1) (λ t lt. le-trans (worst-le (λ k lk.
         omega (arith, gamesUpTo-le homeSide (c .t1) t (suc k) lt lk, gamesUpTo-le awaySide (c .t1) t (suc k) lt lk))) (omega arith))

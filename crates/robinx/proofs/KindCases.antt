@@ -40,19 +40,22 @@ which p n = catTo (λ v. onlyL (p v) (v ∷ [])) n
 abbrev allowed : (ℕ → Constraint) → List ℕ
 allowed c = which (λ v. obeys 2 2 (c v)) 8
 
--- of a constraint with mode 1, function 1, kmin 0 and these fields, what each of mode, function, kmin, kmax, w, T1, T2 and S may be where the
--- others stay
-abbrev columns : ℕ → ℕ → ℕ → ℕ → ℕ → ℕ → List (List ℕ)
-columns kind kmax w T1 T2 S =
+-- of a constraint with this mode, function 1, kmin 0 and these fields, what each of mode, function, kmin, kmax, w, T1, T2 and S may be where
+-- the others stay
+abbrev columnsIn : ℕ → ℕ → ℕ → ℕ → ℕ → ℕ → ℕ → List (List ℕ)
+columnsIn mode kind kmax w T1 T2 S =
     allowed (λ v. withFields kind v 0 1 1 0 kmax w T1 T2 S)
-    ∷ allowed (λ v. withFields kind 1 0 v 1 0 kmax w T1 T2 S)
-    ∷ allowed (λ v. withFields kind 1 0 1 1 v kmax w T1 T2 S)
-    ∷ allowed (λ v. withFields kind 1 0 1 1 0 v w T1 T2 S)
-    ∷ allowed (λ v. withFields kind 1 0 1 1 0 kmax v T1 T2 S)
-    ∷ allowed (λ v. withFields kind 1 0 1 1 0 kmax w v T2 S)
-    ∷ allowed (λ v. withFields kind 1 0 1 1 0 kmax w T1 v S)
-    ∷ allowed (λ v. withFields kind 1 0 1 1 0 kmax w T1 T2 v)
+    ∷ allowed (λ v. withFields kind mode 0 v 1 0 kmax w T1 T2 S)
+    ∷ allowed (λ v. withFields kind mode 0 1 1 v kmax w T1 T2 S)
+    ∷ allowed (λ v. withFields kind mode 0 1 1 0 v w T1 T2 S)
+    ∷ allowed (λ v. withFields kind mode 0 1 1 0 kmax v T1 T2 S)
+    ∷ allowed (λ v. withFields kind mode 0 1 1 0 kmax w v T2 S)
+    ∷ allowed (λ v. withFields kind mode 0 1 1 0 kmax w T1 v S)
+    ∷ allowed (λ v. withFields kind mode 0 1 1 0 kmax w T1 T2 v)
     ∷ []
+
+abbrev columns : ℕ → ℕ → ℕ → ℕ → ℕ → ℕ → List (List ℕ)
+columns = columnsIn 1
 
 -- the numbers from a to b, below 8; of a group of teams or slots, 1 to 3 are one or both of the two, 3 is both
 infix 70 _··_
@@ -68,9 +71,12 @@ rules
     × (columns 12 2 0 1 3 3 ≡ 1 ·· 3 ∷ 1 ·· 5 ∷ 0 ·· 2 ∷ 0 ·· 7 ∷ 0 ·· 0 ∷ 1 ·· 3 ∷ 3 ·· 3 ∷ 1 ·· 3 ∷ [])
     × (columns 13 2 1 1 1 0 ≡ 1 ·· 3 ∷ 1 ·· 5 ∷ 0 ·· 2 ∷ 0 ·· 7 ∷ 1 ·· 7 ∷ 1 ·· 3 ∷ 1 ·· 3 ∷ 0 ·· 0 ∷ [])
     × (columns 14 2 0 3 1 3 ≡ 1 ·· 6 ∷ 1 ·· 5 ∷ 0 ·· 2 ∷ 0 ·· 7 ∷ 0 ·· 0 ∷ 3 ·· 3 ∷ 1 ·· 3 ∷ 1 ·· 3 ∷ [])
+    × (columnsIn 2 15 2 0 3 1 3 ≡ 2 ·· 2 ∷ 1 ·· 5 ∷ 0 ·· 2 ∷ 0 ·· 7 ∷ 0 ·· 0 ∷ 1 ·· 3 ∷ 1 ·· 3 ∷ 1 ·· 3 ∷ [])
     × (columns 21 2 0 1 1 3 ≡ 1 ·· 1 ∷ 1 ·· 5 ∷ 0 ·· 2 ∷ 0 ·· 7 ∷ 0 ·· 0 ∷ 1 ·· 3 ∷ 1 ·· 3 ∷ 1 ·· 3 ∷ [])
     × (columns 31 2 0 3 0 3 ≡ 1 ·· 6 ∷ 1 ·· 5 ∷ 0 ·· 0 ∷ 0 ·· 7 ∷ 0 ·· 0 ∷ 1 ·· 3 ∷ 0 ·· 0 ∷ 1 ·· 3 ∷ [])
     × (columns 32 2 0 3 0 3 ≡ 1 ·· 6 ∷ 1 ·· 5 ∷ 0 ·· 0 ∷ 1 ·· 7 ∷ 0 ·· 0 ∷ 3 ·· 3 ∷ 0 ·· 0 ∷ 1 ·· 3 ∷ [])
+    -- kmin above kmax, which is 0
+    × (columnsIn 2 34 0 0 3 0 3 ≡ 2 ·· 2 ∷ 1 ·· 5 ∷ 0 ·· 7 ∷ 0 ·· 0 ∷ 0 ·· 0 ∷ 1 ·· 3 ∷ 0 ·· 0 ∷ 1 ·· 3 ∷ [])
     × (columns 41 2 0 3 0 3 ≡ 1 ·· 1 ∷ 1 ·· 5 ∷ 0 ·· 0 ∷ 0 ·· 7 ∷ 0 ·· 0 ∷ 1 ·· 3 ∷ 0 ·· 0 ∷ 1 ·· 3 ∷ [])
     × (columns 42 2 0 3 0 3 ≡ 1 ·· 3 ∷ 1 ·· 5 ∷ 0 ·· 0 ∷ 0 ·· 7 ∷ 0 ·· 0 ∷ 3 ·· 3 ∷ 0 ·· 0 ∷ 1 ·· 3 ∷ [])
     × (columns 51 0 1 3 0 0 ≡ 1 ·· 1 ∷ 1 ·· 5 ∷ 0 ·· 0 ∷ 0 ·· 0 ∷ 1 ·· 7 ∷ 3 ·· 3 ∷ 0 ·· 0 ∷ 0 ·· 0 ∷ [])
@@ -78,11 +84,14 @@ rules
     × (which (λ v. obeys 2 2 (withFields v 1 0 1 1 0 2 0 3 0 3)) 60 ≡ 11 ∷ 31 ∷ 32 ∷ 41 ∷ 42 ∷ [])
     × (which (λ v. obeys 2 2 (withFields v 1 0 1 1 0 2 0 3 1 3)) 60 ≡ 12 ∷ 14 ∷ 21 ∷ [])
     × (which (λ v. obeys 2 2 (withFields v 1 0 1 1 0 2 1 3 1 0)) 60 ≡ 13 ∷ [])
+    × (which (λ v. obeys 2 2 (withFields v 2 0 1 1 0 2 0 3 1 3)) 60 ≡ 12 ∷ 14 ∷ 15 ∷ [])
+    × (which (λ v. obeys 2 2 (withFields v 2 0 1 1 0 0 0 3 0 3)) 60 ≡ 11 ∷ 31 ∷ 34 ∷ 42 ∷ [])
     × (which (λ v. obeys 2 2 (withFields v 1 0 1 1 0 0 1 3 0 0)) 60 ≡ 51 ∷ [])
     × (allowed (λ v. withFields 11 1 v 1 1 0 2 0 3 0 3) ≡ 0 ·· 1)
     × (allowed (λ v. withFields 11 1 0 1 v 0 2 0 3 0 3) ≡ 1 ·· 7)
 unfolding all
-rules = (refl, refl, refl, refl, refl, refl, refl, refl, refl, refl, refl, refl, refl, refl, refl, refl, refl)
+rules =
+    (refl, refl, refl, refl, refl, refl, refl, refl, refl, refl, refl, refl, refl, refl, refl, refl, refl, refl, refl, refl, refl)
 
 -- A constraint with T1 of teams 0 and 1, T2 of 1 and 2, S of slots 2 and 4, in a season of four teams: the games that touch it when they
 -- come into slot 2, each 10 · home + away; and the slots that touch it when game (0, 1) comes into them or leaves them.
@@ -108,14 +117,16 @@ touch
     × (touchRow 12 ≡ across ∷ (2 ∷ 4 ∷ []) ∷ (2 ∷ 4 ∷ []) ∷ [])
     × (touchRow 13 ≡ across ∷ 1 ·· 6 ∷ 1 ·· 6 ∷ [])
     × (touchRow 14 ≡ across ∷ (2 ∷ 4 ∷ []) ∷ (2 ∷ 4 ∷ []) ∷ [])
+    × (touchRow 15 ≡ oneInT1 ∷ 1 ·· 6 ∷ 1 ·· 6 ∷ [])
     × (touchRow 21 ≡ (1 ∷ 2 ∷ 12 ∷ []) ∷ (2 ∷ 4 ∷ []) ∷ (2 ∷ 4 ∷ []) ∷ [])
     × (touchRow 31 ≡ oneInT1 ∷ 1 ·· 4 ∷ 1 ·· 4 ∷ [])
     × (touchRow 32 ≡ oneInT1 ∷ 1 ·· 4 ∷ 1 ·· 4 ∷ [])
+    × (touchRow 34 ≡ oneInT1 ∷ 1 ·· 6 ∷ 1 ·· 6 ∷ [])
     × (touchRow 41 ≡ (1 ∷ 10 ∷ []) ∷ 1 ·· 4 ∷ 1 ·· 4 ∷ [])
     × (touchRow 42 ≡ (1 ∷ 10 ∷ []) ∷ 1 ·· 4 ∷ 1 ·· 4 ∷ [])
     × (touchRow 51 ≡ (1 ∷ 10 ∷ []) ∷ 1 ·· 6 ∷ 1 ·· 6 ∷ [])
 unfolding all
-touch = (refl, refl, refl, refl, refl, refl, refl, refl, refl, refl)
+touch = (refl, refl, refl, refl, refl, refl, refl, refl, refl, refl, refl, refl)
 
 -- season A under one constraint, its books spoilt: a deviation and a penalty of 9; game g leaves its slot
 abbrev spoilt : List ℕ → ℕ → Outcome

@@ -13,7 +13,7 @@ use Rattle.robinx.specs.Season.{Instance, slotsOf}
 use Rattle.robinx.specs.Timetable.{X, firstModes}
 use Rattle.robinx.specs.Kinds.{Kind, kindOf, formOf, formAt}
 use Rattle.robinx.specs.Deviations.{each, eachPair, deviationsOf, deviations, inShape, entries}
-use Rattle.robinx.specs.Deviations.{devCA1, devCA2, devCA3, devCA4, devGA1, devBR1, devBR2, devFA1, devFA2, devSE1}
+use Rattle.robinx.specs.Deviations.{devCA1, devCA2, devCA3, devCA4, devCA5, devGA1, devBR1, devBR2, devBR4, devFA1, devFA2, devSE1}
 use Rattle.robinx.specs.Books.{timetable, deviationsAt, penaltyAt, entriesAt, startAt, allEntries, freshLedger, freshTally}
 use Rattle.robinx.specs.Calls.{stretchAt}
 use Rattle.robinx.specs.declared.Constraint.{Constraint}
@@ -77,14 +77,16 @@ length-cond true a l = refl
 length-cond false a l = refl
 
 lengthOf : (k : Kind) (n P : ℕ) (c : Constraint) (x : X) → length (deviationsOf k n P c x) ≡ inShape (formOf k .shape) n P c
-unfolding formOf deviationsOf devCA1 devCA2 devCA3 devCA4 devGA1 devBR1 devBR2 devFA1 devFA2 devSE1
+unfolding formOf deviationsOf devCA1 devCA2 devCA3 devCA4 devCA5 devGA1 devBR1 devBR2 devBR4 devFA1 devFA2 devSE1
 lengthOf Kind.CA1 n P c x = length-each n (c .t1) _
 lengthOf Kind.CA2 n P c x = length-each n (c .t1) _
 lengthOf Kind.CA3 n P c x = length-each n (c .t1) _
 lengthOf Kind.CA4 n P c x = length-cond (firstModes (c .mode)) _ _ ∙ ap (cond (firstModes (c .mode)) 1) (length-each P (slotsOf c) _)
+lengthOf Kind.CA5 n P c x = length-each n (c .t1) _
 lengthOf Kind.GA1 n P c x = refl
 lengthOf Kind.BR1 n P c x = length-each n (c .t1) _
 lengthOf Kind.BR2 n P c x = refl
+lengthOf Kind.BR4 n P c x = length-each n (c .t1) _
 lengthOf Kind.FA1 n P c x = length-each n (c .t1) _
 lengthOf Kind.FA2 n P c x = length-eachPair n (c .t1) _
 lengthOf Kind.SE1 n P c x = length-eachPair n (c .t1) _

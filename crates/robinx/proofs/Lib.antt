@@ -2,6 +2,7 @@ pub mod All
 pub mod SeasonA
 pub mod Cases
 pub mod KindCases
+pub mod TripCases
 pub mod Sums
 pub mod Ext
 pub mod GroupSizes

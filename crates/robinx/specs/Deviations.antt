@@ -7,7 +7,7 @@ use lib.Dec.{ltb}
 use Rattle.robinx.specs.Sums.{sumTo, maxTo, catTo, only, onlyL, dist}
 use Rattle.robinx.specs.Season.{slotsOf}
 use Rattle.robinx.specs.Groups.{has, size, isPair, pairs}
-use Rattle.robinx.specs.Timetable.{X, side, homeSide, awaySide, firstModes, gamesIn, gamesAgainst, gamesUpTo, gamesBetween, breaksIn, meet, lastSlot}
+use Rattle.robinx.specs.Timetable.{X, side, homeSide, awaySide, firstModes, gamesIn, gamesAgainst, gamesUpTo, gamesBetween, plays, breaksIn, alongTrip, overTrips, meet, lastSlot}
 use Rattle.robinx.specs.Kinds.{Kind, kindOf, formAt}
 use Rattle.robinx.specs.declared.Shape.{Shape}
 use Rattle.robinx.specs.declared.Shape.the-variants.{Nothing, One, EachTeam, EachPair, OneOrEachSlot}
@@ -64,6 +64,17 @@ devCA4 n P c x =
     (outside (c .kmin) (c .kmax) (over P (slotsOf c) (λ k. gamesBetween n x (side (c .mode)) (c .t1) (c .t2) k)) ∷ [])
     (each P (slotsOf c) (λ k. outside (c .kmin) (c .kmax) (gamesBetween n x (side (c .mode)) (c .t1) (c .t2) k)))
 
+-- the sum of f over a team's trips that count, and the team's games against T2 on the one from a, whatever their slots
+unfoldable pub trips : ℕ → ℕ → Constraint → X → ℕ → (ℕ → ℕ) → ℕ
+trips n P c x t f = overTrips (plays n x awaySide t) (plays n x homeSide t) P (slotsOf c) f
+
+unfoldable pub tripGames : ℕ → ℕ → Constraint → X → ℕ → ℕ → ℕ
+tripGames n P c x t a = alongTrip (plays n x awaySide t) (plays n x homeSide t) P a (gamesAgainst n x awaySide (c .t2) t)
+
+-- CA5: in each trip its games against T2; their deviations are summed
+unfoldable pub devCA5 : ℕ → ℕ → Constraint → X → List ℕ
+devCA5 n P c x = each n (c .t1) (λ t. trips n P c x t (λ a. outside (c .kmin) (c .kmax) (tripGames n P c x t a)))
+
 -- GA1: games in S that a team of T1 hosts against one of T2
 unfoldable pub devGA1 : ℕ → ℕ → Constraint → X → List ℕ
 devGA1 n P c x = outside (c .kmin) (c .kmax) (over P (slotsOf c) (λ k. gamesBetween n x homeSide (c .t1) (c .t2) k)) ∷ []
@@ -79,6 +90,10 @@ devBR1 n P c x = each n (c .t1) (λ t. offTarget (firstModes (c .mode)) (c .kmax
 -- BR2: the breaks of all teams of T1 together
 unfoldable pub devBR2 : ℕ → ℕ → Constraint → X → List ℕ
 devBR2 n P c x = offTarget (firstModes (c .mode)) (c .kmax) (sumTo (λ t. only (has (c .t1) t) (breaks n P c x t)) n) ∷ []
+
+-- BR4: how many trips fewer than kmin each team has
+unfoldable pub devBR4 : ℕ → ℕ → Constraint → X → List ℕ
+devBR4 n P c x = each n (c .t1) (λ t. c .kmin - trips n P c x t (λ a. 1))
 
 -- FA1: home games less away games against T1 in slots 1 to s, either way round, more than kmax: the largest over s in S
 unfoldable pub devFA1 : ℕ → ℕ → Constraint → X → List ℕ
@@ -105,9 +120,11 @@ deviationsOf Kind.CA1 = devCA1
 deviationsOf Kind.CA2 = devCA2
 deviationsOf Kind.CA3 = devCA3
 deviationsOf Kind.CA4 = devCA4
+deviationsOf Kind.CA5 = devCA5
 deviationsOf Kind.GA1 = devGA1
 deviationsOf Kind.BR1 = devBR1
 deviationsOf Kind.BR2 = devBR2
+deviationsOf Kind.BR4 = devBR4
 deviationsOf Kind.FA1 = devFA1
 deviationsOf Kind.FA2 = devFA2
 deviationsOf Kind.SE1 = devSE1

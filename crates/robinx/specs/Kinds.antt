@@ -1,4 +1,4 @@
--- The ten kinds of constraint by RobinX's names (FORMAT 3), and a row for each.
+-- The twelve kinds of constraint by RobinX's names (FORMAT 3), and a row for each.
 use mathlib.Core.Bool.{Bool, true, false, cond}
 use Prim.Native.Nat.{ℕ}
 use lib.Dec.{eqb}
@@ -14,7 +14,7 @@ use Rattle.robinx.specs.declared.Asks.{Asks}
 use Rattle.robinx.specs.declared.Form.{Form}
 
 pub data Kind : Type 0 where
-  CA1 CA2 CA3 CA4 GA1 BR1 BR2 FA1 FA2 SE1 unknown : Kind
+  CA1 CA2 CA3 CA4 CA5 GA1 BR1 BR2 BR4 FA1 FA2 SE1 unknown : Kind
 
 unfoldable pub kindOf : ℕ → Kind
 kindOf k =
@@ -22,12 +22,14 @@ kindOf k =
     (cond (eqb k 12) CA2
     (cond (eqb k 13) CA3
     (cond (eqb k 14) CA4
+    (cond (eqb k 15) CA5
     (cond (eqb k 21) GA1
     (cond (eqb k 31) BR1
     (cond (eqb k 32) BR2
+    (cond (eqb k 34) BR4
     (cond (eqb k 41) FA1
     (cond (eqb k 42) FA2
-    (cond (eqb k 51) SE1 unknown)))))))))
+    (cond (eqb k 51) SE1 unknown)))))))))))
 
 abbrev pub asks : ℕ → ℕ → Bool → Field → Field → Field → Field → Field → ℕ → Bool → Asks
 asks first last squares kmin kmax w t2 s fewest several = record {
@@ -68,9 +70,11 @@ rowOf Kind.CA1 = row (asks 1 3 yes UpToKmax Any Zero Zero Some 1 no) EachTeam On
 rowOf Kind.CA2 = row (asks 1 3 yes UpToKmax Any Zero Some Some 1 yes) EachTeam Across InS
 rowOf Kind.CA3 = row (asks 1 3 yes UpToKmax Any Some Some Zero 1 no) EachTeam Across AnySlot
 rowOf Kind.CA4 = row (asks 1 6 yes UpToKmax Any Zero Some Some 2 no) OneOrEachSlot Across InS
+rowOf Kind.CA5 = row (asks 2 2 yes UpToKmax Any Zero Some Some 1 no) EachTeam OneInT1 AnySlot
 rowOf Kind.GA1 = row (asks 1 1 yes UpToKmax Any Zero Some Some 1 no) One HomeAndAway InS
 rowOf Kind.BR1 = row (asks 1 6 yes Zero Any Zero Zero Some 1 no) EachTeam OneInT1 UpToLastOfS
 rowOf Kind.BR2 = row (asks 1 6 yes Zero Some Zero Zero Some 2 no) One OneInT1 UpToLastOfS
+rowOf Kind.BR4 = row (asks 2 2 yes Any Zero Zero Zero Some 1 no) EachTeam OneInT1 AnySlot
 rowOf Kind.FA1 = row (asks 1 1 yes Zero Any Zero Zero Some 1 no) EachTeam BothInT1 UpToLastOfS
 rowOf Kind.FA2 = row (asks 1 3 yes Zero Any Zero Zero Some 2 no) EachPair BothInT1 UpToLastOfS
 rowOf Kind.SE1 = row (asks 1 1 yes Zero Zero Some Zero Zero 2 no) EachPair BothInT1 AnySlot

@@ -1,4 +1,5 @@
 -- `fill_capacity` meets its contract. Assumes nothing.
+use mathlib.Core.Path.{refl}
 use native.Mathlib.Omega.{arith}
 use Rattle.robinx.specs.Kinds.{kindOf}
 use Rattle.robinx.specs.Deviations.{deviationsOf}
@@ -18,6 +19,9 @@ fill-runs-requires c κs = search needs
 
 fill-ca4-requires : tie.Need-fill-ca4-requires
 fill-ca4-requires c κs = search needs
+
+fill-trips-requires : tie.Need-fill-trips-requires
+fill-trips-requires c κs = (c .before .before .before .pre .0, rw (c .before .match .keys5) refl)
 
 same-length : tie.Need-same-length
 same-length c = search needs
@@ -44,8 +48,14 @@ returns-4 : tie.Need-returns-4
 unfolding deviationsOf kindOf
 returns-4 c = of-number (c .before .before .before .before .before .before .pre .0) 14 (search needs) (c .before .before .fill-ca4 .ensures)
 
+same-length-5 : tie.Need-same-length-5
+same-length-5 c = search needs
+
 returns-5 : tie.Need-returns-5
-returns-5 c = absurd (no-other (c .before .before .pre .0) (omega arith))
+returns-5 c = search needs
+
+returns-6 : tie.Need-returns-6
+returns-6 c = absurd (no-other (c .before .before .pre .0) (omega arith))
 
 pub fill-capacity-spec : {M : Type 1} → statement M
 fill-capacity-spec =
@@ -55,6 +65,7 @@ fill-capacity-spec =
     fill-counts-requires-2
     fill-runs-requires
     fill-ca4-requires
+    fill-trips-requires
     same-length
     returns
     same-length-2
@@ -63,4 +74,6 @@ fill-capacity-spec =
     returns-3
     same-length-4
     returns-4
-    returns-5)
+    same-length-5
+    returns-5
+    returns-6)

@@ -18,6 +18,9 @@ keeps-requires-3 c κs = search needs
 keeps-requires-4 : tie.Need-keeps-requires-4
 keeps-requires-4 c κs = search needs
 
+keeps-requires-5 : tie.Need-keeps-requires-5
+keeps-requires-5 c κs = search needs
+
 returns : tie.Need-returns
 unfolding asksOf asksAt kindOf
 returns c = asked-at _ _ _ 11 (c .before .match .keys1) (c .keeps .ensures)
@@ -35,7 +38,11 @@ unfolding asksOf asksAt kindOf
 returns-4 c = asked-at _ _ _ 14 (c .before .match .keys4) (c .keeps4 .ensures)
 
 returns-5 : tie.Need-returns-5
-returns-5 c = asked-none _ _ (c .before .args .c) (omega arith)
+unfolding asksOf asksAt kindOf
+returns-5 c = asked-at _ _ _ 15 (c .before .match .keys5) (c .keeps5 .ensures)
+
+returns-6 : tie.Need-returns-6
+returns-6 c = asked-none _ _ (c .before .args .c) (omega arith)
 
 pub capacity-obeys-spec : {M : Type 1} → statement M
 capacity-obeys-spec =
@@ -45,8 +52,10 @@ capacity-obeys-spec =
     keeps-requires-2
     keeps-requires-3
     keeps-requires-4
+    keeps-requires-5
     returns
     returns-2
     returns-3
     returns-4
-    returns-5)
+    returns-5
+    returns-6)

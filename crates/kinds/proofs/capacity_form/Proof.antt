@@ -19,6 +19,9 @@ form-requires-3 c κs = search needs
 form-requires-4 : tie.Need-form-requires-4
 form-requires-4 c κs = search needs
 
+form-requires-5 : tie.Need-form-requires-5
+form-requires-5 c κs = search needs
+
 no-form-requires : tie.Need-no-form-requires
 no-form-requires c κs = search needs
 
@@ -39,7 +42,11 @@ unfolding formOf formAt kindOf
 returns-4 c = form-at 14 (c .before .match .keys4) (c .form4 .ensures)
 
 returns-5 : tie.Need-returns-5
-returns-5 c = c .no-form .ensures ∙ form-of-none (c .before .before .args .kind) (omega arith)
+unfolding formOf formAt kindOf
+returns-5 c = form-at 15 (c .before .match .keys5) (c .form5 .ensures)
+
+returns-6 : tie.Need-returns-6
+returns-6 c = c .no-form .ensures ∙ form-of-none (c .before .before .args .kind) (omega arith)
 
 pub capacity-form-spec : {M : Type 1} → statement M
 capacity-form-spec =
@@ -49,9 +56,11 @@ capacity-form-spec =
     form-requires-2
     form-requires-3
     form-requires-4
+    form-requires-5
     no-form-requires
     returns
     returns-2
     returns-3
     returns-4
-    returns-5)
+    returns-5
+    returns-6)
