@@ -39,7 +39,7 @@ parts() {
         }'
 }
 
-for season in league18:300 largest32:1024 mixed32:1024; do
+for season in league18:300 largest32:1024 mixed32:1024 trips20:206; do
     constraints=${season#*:} season=${season%:*}
     echo "$season" >&2
     for call in open exchange set; do
@@ -48,8 +48,8 @@ for season in league18:300 largest32:1024 mixed32:1024; do
         count reference reference "$season" "$constraints" "$call" 1 20
     done
 done > "$work/counts"
-for season in league18 largest32 mixed32; do
-    for part in 0 kind11 kind12 kind13 kind14 kind21 kind31 kind32 kind41 kind42 kind51; do
+for season in league18 largest32 mixed32 trips20; do
+    for part in 0 kind11 kind12 kind13 kind14 kind15 kind21 kind31 kind32 kind34 kind41 kind42 kind51; do
         count kind library "$season" "$part" set 1 "${BENCH_CALLS:-200}"
     done
 done >> "$work/counts"

@@ -86,7 +86,8 @@ explained() {
     done
     target/season-text encode examples/named8.txt "$work/named8.bin"
     target/season-text encode examples/league18.txt "$work/league18.bin"
-    "$work/explain" examples/season-a.bin "$work/named8.bin" "$work/league18.bin"
+    target/season-text encode examples/trips20.txt "$work/trips20.bin"
+    "$work/explain" examples/season-a.bin "$work/named8.bin" "$work/league18.bin" "$work/trips20.bin"
 }
 
 example() {
@@ -139,7 +140,7 @@ installed() {
 
 text_form() {
     step text form of the examples
-    for name in season-a league18 largest32 mixed32; do
+    for name in season-a league18 largest32 mixed32 trips20; do
         target/season-text encode examples/$name.txt "$work/$name.bin" 2> /dev/null
         target/season-text decode "$work/$name.bin" | cmp - examples/$name.txt
     done

@@ -31,8 +31,8 @@
 #endif
 
 /* CHANGELOG.md says what each version changed. The number is 10000 * major + 100 * minor + patch. */
-#define SEASON_CHECKER_VERSION "1.1.0"
-#define SEASON_CHECKER_VERSION_NUMBER 10100
+#define SEASON_CHECKER_VERSION "1.2.0"
+#define SEASON_CHECKER_VERSION_NUMBER 10200
 
 #ifdef __cplusplus
 extern "C" {
@@ -64,16 +64,18 @@ enum season_kind {
     SEASON_KIND_CA2 = 12,          /* games of a team against some teams in some slots */
     SEASON_KIND_CA3 = 13,          /* games of a team in each run of w slots */
     SEASON_KIND_CA4 = 14,          /* games between two groups in some slots */
+    SEASON_KIND_CA5 = 15,          /* away games of a team against some teams on each of its trips */
     SEASON_KIND_GA1 = 21,          /* games with the home team in one group and the away team in another */
     SEASON_KIND_BR1 = 31,          /* breaks of a team */
     SEASON_KIND_BR2 = 32,          /* breaks of a group together */
+    SEASON_KIND_BR4 = 34,          /* trips of a team: two or more away games with no home game between */
     SEASON_KIND_FA1 = 41,          /* home games less away games of a team, at any time */
     SEASON_KIND_FA2 = 42,          /* games of one team less those of another, at any time */
     SEASON_KIND_SE1 = 51           /* slots between the games of a pair */
 };
 
 /* The modes: byte 1 of a head. Modes 4 to 6 are EACH for CA4 (a count for each slot of S), EXACTLY for BR1 and BR2 (kmax is the
- * number that is wanted). GA1, FA1 and SE1 have mode 1. */
+ * number that is wanted). CA5 and BR4 have mode AWAY only; GA1, FA1 and SE1 have mode 1. */
 enum season_mode {
     SEASON_MODE_HOME = 1,
     SEASON_MODE_AWAY = 2,
@@ -232,9 +234,11 @@ SEASON_HELPER const season_kind_row *season_kind_row_of(unsigned kind, unsigned 
         { SEASON_KIND_CA3, 1, 3, SEASON_PER_TEAM, "CA3" },
         { SEASON_KIND_CA4, 1, 3, SEASON_PER_CONSTRAINT, "CA4" },
         { SEASON_KIND_CA4, 4, 6, SEASON_PER_SLOT, "CA4" },
+        { SEASON_KIND_CA5, 2, 2, SEASON_PER_TEAM, "CA5" },
         { SEASON_KIND_GA1, 1, 1, SEASON_PER_CONSTRAINT, "GA1" },
         { SEASON_KIND_BR1, 1, 6, SEASON_PER_TEAM, "BR1" },
         { SEASON_KIND_BR2, 1, 6, SEASON_PER_CONSTRAINT, "BR2" },
+        { SEASON_KIND_BR4, 2, 2, SEASON_PER_TEAM, "BR4" },
         { SEASON_KIND_FA1, 1, 1, SEASON_PER_TEAM, "FA1" },
         { SEASON_KIND_FA2, 1, 3, SEASON_PER_PAIR, "FA2" },
         { SEASON_KIND_SE1, 1, 1, SEASON_PER_PAIR, "SE1" }

@@ -5,23 +5,26 @@ use std::collections::BTreeMap;
 use std::fmt::Write;
 
 /// Instructions of a hand-written C program with vector code on the same lists: open, set, exchange.
-const LIMITS: [(&str, [f64; 3]); 3] = [
+const LIMITS: [(&str, [f64; 3]); 4] = [
     ("league18", [191_000.0, 105_000.0, 112_000.0]),
     ("largest32", [760_000.0, 435_000.0, 457_000.0]),
     ("mixed32", [1_536_000.0, 940_000.0, 1_008_000.0]),
+    ("trips20", [177_000.0, 88_000.0, 92_000.0]),
 ];
 
 const CALLS: [&str; 3] = ["open", "set", "exchange"];
 
 /// The kinds of constraints, with their numbers.
-const KINDS: [(&str, u8); 10] = [
+const KINDS: [(&str, u8); 12] = [
     ("CA1", 11),
     ("CA2", 12),
     ("CA3", 13),
     ("CA4", 14),
+    ("CA5", 15),
     ("GA1", 21),
     ("BR1", 31),
     ("BR2", 32),
+    ("BR4", 34),
     ("FA1", 41),
     ("FA2", 42),
     ("SE1", 51),
@@ -175,11 +178,20 @@ pub fn report(counts: &str) -> String {
     }
 
     text += "\n## What a set spends on each kind\n\nInstructions of a set on the season with the constraints of one kind only, beyond those of a set with none;\n\
-             in brackets the number of the constraints and the share of the whole season's set.\n\n\
-             | kind | league18 | largest32 | mixed32 |\n|---|---|---|---|\n";
+             in brackets the number of the constraints and the share of the whole season's set. Empty where the season has none of the kind.\n\n\
+             | kind ";
+    for (name, _) in &LIMITS {
+        let _ = write!(text, "| {name} ");
+    }
+    let _ = writeln!(text, "|\n|---{}|", "|---".repeat(LIMITS.len()));
     for (kind, number) in KINDS {
         let _ = write!(text, "| {kind} ");
         for ((name, _), sample) in LIMITS.iter().zip(&samples) {
+            let of_kind = Sample::new(name, Part::Kind(number)).constraints();
+            if of_kind == 0 {
+                text += "| ";
+                continue;
+            }
             let whole = counts.of("library", name, sample.constraints(), "set");
             let beyond =
                 counts.of("kind", name, number.into(), "set") - counts.of("kind", name, 0, "set");
@@ -187,7 +199,7 @@ pub fn report(counts: &str) -> String {
                 text,
                 "| {} ({}, {:.0} %) ",
                 thousands(beyond),
-                Sample::new(name, Part::Kind(number)).constraints(),
+                of_kind,
                 100.0 * beyond / whole
             );
         }

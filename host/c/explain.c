@@ -115,6 +115,20 @@ static void by_hand(void)
     CHECK(fault.refusal == 5 && fault.constraint == 3);
     bytes[18 + 3 * 8] = 13;
 
+    /* Constraint 1, a BR2 of all teams, as a BR4: with mode 3, with kmax 1, and as it has to be, with a deviation for each of 4 teams. */
+    bytes[18 + 8] = SEASON_KIND_BR4;
+    fault = open_it(end, games, entries, words);
+    CHECK(fault.refusal == 5 && fault.constraint == 1);
+    bytes[18 + 9] = SEASON_MODE_AWAY;
+    fault = open_it(end, games, entries, words);
+    CHECK(fault.refusal == 5 && fault.constraint == 1);
+    bytes[18 + 14] = 0;
+    fault = open_it(end, games, entries, words);
+    CHECK(fault.refusal == 7 && fault.buffer == SEASON_BUFFER_LEDGER && fault.items == 12 && fault.needed == 15);
+    bytes[18 + 8] = SEASON_KIND_BR2;
+    bytes[18 + 9] = SEASON_MODE_ANY;
+    bytes[18 + 14] = 1;
+
     sheet[4] = 4;
     fault = open_it(end, games, entries, words);
     CHECK(fault.refusal == 8 && fault.game == 4 && fault.slot == 4 && fault.team == SEASON_NOTHING);

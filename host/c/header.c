@@ -24,6 +24,18 @@ static const uint8_t season[] = {
     1, 2 /* the sheet */
 };
 
+/* Team 0 is away in slots 1 and 3: a trip. BR4 asks teams 0 and 1 for one each, CA5 team 0 for no game against team 1 on it. */
+static const uint8_t trips[] = {
+    3, 4, 2, 0, 2, 0,
+    1, 2,
+    0, 0,
+    34, 2, 1, 1, 5, 1, 0, 0,
+    15, 2, 0, 1, 3, 0, 0, 0,
+    3, 0, 0, 0, 0, 0, 0, 0, 5, 0, 0, 0, 0, 0, 0, 0,
+    1, 0, 0, 0, 2, 0, 0, 0, 15, 0, 0, 0, 0, 0, 0, 0,
+    1, 3 /* the sheet */
+};
+
 /* SEASON_CHECKER_VERSION as a number. */
 static int version(void)
 {
@@ -75,6 +87,13 @@ int main(void)
     CHECK(season_kind_row_of(SEASON_KIND_CA4, SEASON_MODE_EACH_HOME)->per == SEASON_PER_SLOT);
     CHECK(season_kind_row_of(SEASON_KIND_BR1, SEASON_MODE_EXACTLY_AWAY)->per == SEASON_PER_TEAM);
     CHECK(season_kind_row_of(SEASON_KIND_SE1, SEASON_MODE_HOME)->per == SEASON_PER_PAIR);
+    CHECK(SEASON_KIND_CA5 == 15 && SEASON_KIND_BR4 == 34);
+    CHECK(season_kind_row_of(SEASON_KIND_CA5, SEASON_MODE_AWAY)->per == SEASON_PER_TEAM);
+    CHECK(season_kind_row_of(SEASON_KIND_BR4, SEASON_MODE_AWAY)->per == SEASON_PER_TEAM);
+    CHECK(strcmp(season_kind_row_of(SEASON_KIND_CA5, SEASON_MODE_AWAY)->name, "CA5") == 0);
+    CHECK(strcmp(season_kind_row_of(SEASON_KIND_BR4, SEASON_MODE_AWAY)->name, "BR4") == 0);
+    CHECK(season_kind_row_of(SEASON_KIND_CA5, SEASON_MODE_HOME) == NULL && season_kind_row_of(SEASON_KIND_CA5, SEASON_MODE_ANY) == NULL);
+    CHECK(season_kind_row_of(SEASON_KIND_BR4, SEASON_MODE_HOME) == NULL && season_kind_row_of(SEASON_KIND_BR4, SEASON_MODE_ANY) == NULL);
     CHECK(SEASON_FUNCTION_SUM == 1 && SEASON_FUNCTION_SQUARE_OF_SUM == 2 && SEASON_FUNCTION_SUM_OF_SQUARES == 3);
     CHECK(SEASON_FUNCTION_SMALLEST == 4 && SEASON_FUNCTION_LARGEST == 5);
     CHECK(strcmp(season_refusal_text(SEASON_REFUSED_SAME), "both games are the same") == 0);
@@ -97,6 +116,21 @@ int main(void)
     CHECK(reply.declined && reply.number == SEASON_REFUSED_SLOT);
     reply = season_set(season, end, sheet, 2, ledger, 3, tally, 3, 2, 0);
     CHECK(reply.declined && reply.number == SEASON_REFUSED_LENGTHS);
+
+    /* Trips: both kinds, then without the second away game, and with it after the last slot of S, which is not BR4's trip. */
+    end = season_end(trips, sizeof trips);
+    CHECK(end == sizeof trips - 2 && season_ledger_items(trips, end) == 3 && season_deviations(trips, end, 0) == 2);
+    memcpy(sheet, trips + end, 2);
+    reply = season_open(trips, end, sheet, 2, ledger, 3, tally, 4);
+    CHECK(!reply.declined && reply.number == SEASON_INFEASIBLE && reply.infeasibility == 5 && reply.objective == 3);
+    CHECK(ledger[0] == 0 && ledger[1] == 1 && ledger[2] == 1);
+    reply = season_set(trips, end, sheet, 2, ledger, 3, tally, 4, 1, 0);
+    CHECK(!reply.declined && reply.number == SEASON_UNPLACED && reply.infeasibility == 5 && reply.objective == -3);
+    CHECK(ledger[0] == 1 && ledger[1] == 1 && ledger[2] == 0);
+    reply = season_set(trips, end, sheet, 2, ledger, 3, tally, 4, 1, 4);
+    CHECK(!reply.declined && reply.number == SEASON_INFEASIBLE && reply.infeasibility == 0 && reply.objective == 3);
+    CHECK(ledger[0] == 1 && ledger[1] == 1 && ledger[2] == 1 && tally[0] == 10 && tally[1] == 3 && tally[2] == 10 && tally[3] == 3);
+    end = season_end(season, sizeof season);
 
     /* The same by way of the struct. */
     lent.season = season;

@@ -2,8 +2,21 @@
 
 use crate::Random;
 
-/// Every kind with its largest mode.
-pub const KIND_MODES: [(u8, u8); 10] = [(11, 3), (12, 3), (13, 3), (14, 6), (21, 1), (31, 6), (32, 6), (41, 1), (42, 3), (51, 1)];
+/// Every kind with its lowest and its highest mode.
+pub const KIND_MODES: [(u8, u8, u8); 12] = [
+    (11, 1, 3),
+    (12, 1, 3),
+    (13, 1, 3),
+    (14, 1, 6),
+    (15, 2, 2),
+    (21, 1, 1),
+    (31, 1, 6),
+    (32, 1, 6),
+    (34, 2, 2),
+    (41, 1, 1),
+    (42, 1, 3),
+    (51, 1, 1),
+];
 
 /// How large a season may become.
 #[derive(Clone, Copy)]
@@ -58,8 +71,8 @@ impl Draft {
             _ => random.within(1, shape.constraints),
         };
         for _ in 0..constraints {
-            let (kind, modes) = random.one_of(&KIND_MODES);
-            let mode = random.within(1, modes.into()) as u8;
+            let (kind, lowest, highest) = random.one_of(&KIND_MODES);
+            let mode = random.within(lowest.into(), highest.into()) as u8;
             draft.add_constraint(random, kind, mode);
         }
         draft
@@ -154,9 +167,11 @@ impl Draft {
             12 => (true, true, false, true, 1),
             13 => (true, true, true, true, 1),
             14 => (true, true, false, true, 2),
+            15 => (true, true, false, true, 1),
             21 => (true, true, false, true, 1),
             31 | 41 => (false, true, false, false, 1),
             32 | 42 => (false, true, false, false, 2),
+            34 => (true, false, false, false, 1),
             51 => (false, false, true, false, 2),
             _ => panic!("no kind has the number {kind}"),
         };
@@ -175,13 +190,22 @@ impl Draft {
         if kind == 32 {
             kmax = kmax.max(1);
         }
+        if kind == 34 && random.chance(70) {
+            // About as many trips as a team has; otherwise what was drawn, with kmax 0 below it.
+            kmin = random.within(1, 4) as u8;
+        }
         let t1 = group(random, self.teams, fewest);
         let t2 = match uses_t2 {
             true if kind == 12 && t1.count_ones() == 1 => group(random, self.teams, 2),
             true => group(random, self.teams, 1),
             false => 0,
         };
-        let s = if needs_w { 0 } else { group(random, self.slots, 1) };
+        let s = match kind {
+            // A trip has two slots in S, and games after S can lengthen it.
+            15 | 34 if self.slots > 1 && random.chance(60) => run_that_ends_early(random, self.slots),
+            _ if needs_w => 0,
+            _ => group(random, self.slots, 1),
+        };
         let mut body = [0; 16];
         body[0..4].copy_from_slice(&(t1 as u32).to_le_bytes());
         body[4..8].copy_from_slice(&(t2 as u32).to_le_bytes());
@@ -197,6 +221,13 @@ fn corner(random: &mut Random, least: usize, most: usize, often: &[usize]) -> us
         2 | 3 => random.one_of(often).clamp(least, 255),
         _ => random.within(least, most),
     }
+}
+
+/// A run of slots before the last one, half of the time from the first.
+fn run_that_ends_early(random: &mut Random, slots: usize) -> u64 {
+    let last = random.within(1, slots - 1);
+    let first = if random.chance(50) { 1 } else { random.within(1, last) };
+    (u64::MAX >> (64 - last)) & (u64::MAX << (first - 1))
 }
 
 /// A group of at least `fewest` of `size` members.

@@ -66,12 +66,14 @@ pub fn deviations(season: &Season, diaries: &Diaries, c: &Constraint) -> Vec<u32
         13 => teams.iter().map(|&t| runs(season, diaries, c, t)).collect(),
         14 if c.mode > 3 => slots.iter().map(|&s| outside(c, between(diaries, c, |slot| slot == s))).collect(),
         14 => vec![outside(c, between(diaries, c, |slot| c.s[slot]))],
+        15 => teams.iter().map(|&t| games_on_trips(c, &trips(season, diaries, c, t))).collect(),
         21 => {
             let fits = |&&(home, away, slot): &&(usize, usize, usize)| c.t1[home] && c.t2[away] && c.s[slot];
             vec![outside(c, diaries.placed.iter().filter(fits).count() as i64)]
         }
         31 => teams.iter().map(|&t| too_many_breaks(c, breaks(season, diaries, c, t))).collect(),
         32 => vec![too_many_breaks(c, teams.iter().map(|&t| breaks(season, diaries, c, t)).sum())],
+        34 => teams.iter().map(|&t| (c.kmin - trips(season, diaries, c, t).len() as i64).max(0)).collect(),
         41 => teams.iter().map(|&t| home_away_gap(season, diaries, c, t)).collect(),
         42 => pairs.iter().map(|&(i, j)| games_gap(season, diaries, c, i, j)).collect(),
         51 => pairs.iter().map(|&(i, j)| closeness(season, diaries, c, i, j)).collect(),
@@ -140,6 +142,33 @@ fn too_many_breaks(c: &Constraint, count: i64) -> i64 {
     } else {
         (count - c.kmax).max(0)
     }
+}
+
+/// Away games of a team: slot and opponent of each, in the order of the slots.
+type AwayGames = Vec<(usize, usize)>;
+
+/// The trips of team t that count: away games up to the next home game, two or more of them, the first and the last one in S.
+fn trips(season: &Season, diaries: &Diaries, c: &Constraint, t: usize) -> Vec<AwayGames> {
+    let mut found: Vec<AwayGames> = Vec::new();
+    let mut was_away = false;
+    for s in 1..=season.slots {
+        let Some(entry) = diaries.of[t][s] else { continue };
+        if !entry.at_home {
+            if !was_away {
+                found.push(Vec::new());
+            }
+            found.last_mut().unwrap().push((s, entry.opponent));
+        }
+        was_away = !entry.at_home;
+    }
+    found.retain(|games| games.len() >= 2 && c.s[games[0].0] && c.s[games[games.len() - 1].0]);
+    found
+}
+
+/// CA5: for each trip the games against T2, also those outside S, and how far that is outside kmin..kmax; added up.
+fn games_on_trips(c: &Constraint, trips: &[AwayGames]) -> i64 {
+    let against_t2 = |games: &AwayGames| games.iter().filter(|&&(_, opponent)| c.t2[opponent]).count() as i64;
+    trips.iter().map(|games| outside(c, against_t2(games))).sum()
 }
 
 /// FA1: the largest |home - away| above kmax after a slot of S, games against T1 only.

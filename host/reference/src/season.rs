@@ -43,7 +43,7 @@ impl Constraint {
     pub fn entries(&self) -> usize {
         let teams = size(&self.t1);
         match self.kind {
-            11 | 12 | 13 | 31 | 41 => teams,
+            11 | 12 | 13 | 15 | 31 | 34 | 41 => teams,
             14 if self.mode > 3 => size(&self.s),
             14 | 21 | 32 => 1,
             42 | 51 => teams * (teams - 1) / 2,
@@ -127,39 +127,41 @@ fn read_constraint(head: &[u8], body: &[u8], teams: usize, slots: usize) -> Opti
     let mode_is_allowed = match kind {
         11 | 12 | 13 | 42 => (1..=3).contains(&mode),
         14 | 31 | 32 => (1..=6).contains(&mode),
+        15 | 34 => mode == 2,
         21 | 41 | 51 => mode == 1,
         _ => return None,
     };
     let enough_teams = match kind {
-        11 | 13 | 21 | 31 | 41 => in_t1 >= 1,
+        11 | 13 | 15 | 21 | 31 | 34 | 41 => in_t1 >= 1,
         12 => in_t1 >= 1 && (in_t1 > 1 || in_t2 > 1),
         14 | 32 | 42 | 51 => in_t1 > 1,
         _ => return None,
     };
     let t2_fits = match kind {
-        12 | 13 | 14 | 21 => in_t2 >= 1,
-        11 | 31 | 32 | 41 | 42 | 51 => in_t2 == 0,
+        12 | 13 | 14 | 15 | 21 => in_t2 >= 1,
+        11 | 31 | 32 | 34 | 41 | 42 | 51 => in_t2 == 0,
         _ => return None,
     };
     let s_fits = match kind {
-        11 | 12 | 14 | 21 | 31 | 32 | 41 | 42 => in_s >= 1,
+        11 | 12 | 14 | 15 | 21 | 31 | 32 | 34 | 41 | 42 => in_s >= 1,
         13 | 51 => in_s == 0,
         _ => return None,
     };
     let kmin_fits = match kind {
-        11 | 12 | 13 | 14 | 21 => kmin <= kmax,
+        11 | 12 | 13 | 14 | 15 | 21 => kmin <= kmax,
         31 | 32 | 41 | 42 | 51 => kmin == 0,
+        34 => true,
         _ => return None,
     };
     let kmax_fits = match kind {
-        11 | 12 | 13 | 14 | 21 | 31 | 41 | 42 => true,
+        11 | 12 | 13 | 14 | 15 | 21 | 31 | 41 | 42 => true,
         32 => kmax > 0,
-        51 => kmax == 0,
+        34 | 51 => kmax == 0,
         _ => return None,
     };
     let w_fits = match kind {
         13 | 51 => w >= 1,
-        11 | 12 | 14 | 21 | 31 | 32 | 41 | 42 => w == 0,
+        11 | 12 | 14 | 15 | 21 | 31 | 32 | 34 | 41 | 42 => w == 0,
         _ => return None,
     };
     let head_fits = hard <= 1 && (1..=5).contains(&function) && weight >= 1;

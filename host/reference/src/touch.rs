@@ -18,6 +18,7 @@ pub fn touched(c: &Constraint, game: Game, a: u8, b: u8) -> bool {
         11 => one_in_t1 && within_s,
         12 | 14 => t1_meets_t2 && within_s,
         13 => t1_meets_t2,
+        15 | 34 => one_in_t1,
         21 => c.t1[i] && c.t2[j] && within_s,
         31 | 32 => one_in_t1 && up_to_last,
         41 | 42 => both_in_t1 && up_to_last,

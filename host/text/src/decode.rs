@@ -107,8 +107,8 @@ fn constraint(head: &[u8], body: &[u8], teams: usize, slots: usize) -> Result<St
     let kind = kind_by_number(kind).ok_or_else(|| format!("no kind has the number {kind}"))?;
     let mut words = vec![kind.word.to_string()];
     match mode {
-        1 if !kind.side => (),
-        1..=3 if kind.side => words.push(SIDES[usize::from(mode) - 1].into()),
+        1 if kind.sides.is_empty() => (),
+        1..=3 if kind.sides.contains(&SIDES[usize::from(mode) - 1]) => words.push(SIDES[usize::from(mode) - 1].into()),
         4..=6 if kind.second.is_some() => {
             words.push(kind.second.unwrap_or("").into());
             words.push(SIDES[usize::from(mode) - 4].into());

@@ -304,8 +304,13 @@ impl Given {
         };
         let place = |words: &[&str]| words.iter().position(|&known| known == right).map(|at| at as u8);
         let said = if let Some(at) = place(&SIDES) {
-            if !kind.side {
+            if kind.sides.is_empty() {
                 return Err(format!("{} has no side", kind.word));
+            }
+            if !kind.sides.contains(&right) {
+                // It counts as said, so that it is not told as missing too.
+                self.side.get_or_insert(at + 1);
+                return Err(format!("'{word}': the side of {} is {}", kind.word, kind.sides.join(" or ")));
             }
             self.side.replace(at + 1).is_some()
         } else if let Some(at) = place(&FUNCTIONS) {
@@ -347,10 +352,12 @@ impl Given {
     /// What the kind needs and the line does not say.
     fn missing(&self, kind: &Kind) -> Vec<String> {
         let wanted = [
-            (kind.side && self.side.is_none(), "a side: home, away or any"),
+            (kind.sides.len() > 1 && self.side.is_none(), "a side: home, away or any"),
+            (kind.sides.len() == 1 && self.side.is_none(), "its side, away"),
             (self.hard.is_none(), "hard or soft"),
             (self.function.is_none(), "a function: sum, sq-sum, sum-sq, min or max"),
             (self.weight.is_none(), "weight=N"),
+            (kind.kmin && kind.kmax.is_none() && self.kmin.is_none(), "kmin=N"),
             (kind.kmax.is_some() && self.kmax.is_none(), "kmax=N"),
             (kind.w && self.w.is_none(), "w=N"),
             (self.t1.is_none(), "T1=TEAMS"),
@@ -365,7 +372,7 @@ impl Given {
         let (kmin, kmax) = (self.kmin.unwrap_or(0), self.kmax.unwrap_or(0));
         let (t1, t2) = (self.t1.unwrap_or(0).count_ones() as usize, self.t2.unwrap_or(0).count_ones());
         let mut found = Vec::new();
-        if kind.kmin && kmin > kmax {
+        if kind.kmax.is_some() && kmin > kmax {
             found.push(format!("kmin {kmin} is above kmax {kmax}"));
         }
         if t1 < kind.fewest {

@@ -164,7 +164,7 @@ fn asks_side(c: &Constraint, at_home: bool) -> bool {
 
 /// `home game`, `away break`, ..
 fn noun(c: &Constraint, what: &str) -> String {
-    let side = if c.kind.side { ["home ", "away ", ""][usize::from(c.mode - 1) % 3] } else { "" };
+    let side = if c.kind.sides.is_empty() { "" } else { ["home ", "away ", ""][usize::from(c.mode - 1) % 3] };
     format!("{side}{what}")
 }
 
@@ -395,6 +395,91 @@ pub fn finds_breaks(view: &View, c: &Constraint, subject: Subject) -> Findings {
         }
         let side = |slot: usize| if view.diary[*team][slot].is_some_and(|entry| entry.at_home) { " home" } else { " away" };
         finding.add_slots(view.names, *team, slots, if any { Some(&side) } else { None });
+    }
+    vec![finding]
+}
+
+// CA5, BR4
+
+/// The slots of each trip of a team: two or more away games with no home game between them, free slots passed over.
+fn trips(view: &View, team: usize) -> Vec<Vec<usize>> {
+    let is_away = |slot: usize| view.diary[team][slot].is_some_and(|entry| !entry.at_home);
+    let slots = view.slots_of(team, |_, _| true);
+    let runs = slots.chunk_by(|&one, &next| is_away(one) && is_away(next));
+    runs.filter(|run| run.len() > 1).map(|run| run.to_vec()).collect()
+}
+
+/// The first and the last slot of a trip.
+fn ends(trip: &[usize]) -> [usize; 2] {
+    [trip[0], trip[trip.len() - 1]]
+}
+
+/// Whether a trip counts: its first and its last slot are in S.
+fn counts(c: &Constraint, trip: &[usize]) -> bool {
+    ends(trip).iter().all(|&slot| c.has_slot(slot))
+}
+
+pub fn asks_games_on_trips(view: &View, c: &Constraint) -> String {
+    let words = view.words();
+    let games = limits(c, &noun(c, "game"));
+    format!("{}: {games}{} on each trip{}", words.each(c.t1), words.against(c), words.within_slots(c.s, 1))
+}
+
+/// A sentence for each trip: `Birch: 2 away games against Elm on the trip in slots 4 to 7, at most 1: slots 4, 7`.
+pub fn finds_games_on_trips(view: &View, c: &Constraint, subject: Subject) -> Findings {
+    let Subject::Team(team) = subject else { return Vec::new() };
+    let counted = trips(view, team).into_iter().filter(|trip| counts(c, trip));
+    counted.filter_map(|trip| found_on_trip(view, c, team, &trip)).collect()
+}
+
+fn found_on_trip(view: &View, c: &Constraint, team: usize, trip: &[usize]) -> Option<Finding> {
+    let against = |slot: usize| view.diary[team][slot].is_some_and(|entry| c.has_opponent(entry.opponent));
+    let slots: Vec<usize> = trip.iter().copied().filter(|&slot| against(slot)).collect();
+    let (by, limit) = outside(c, slots.len())?;
+    let count = count_of(slots.len(), &noun(c, "game"));
+    let text = format!("{}: {count}{} on the trip in slots ", view.names.team(team), view.words().against_group(c));
+    let mut finding = Finding::new(by, text);
+    let mut separator = "";
+    for slot in ends(trip) {
+        finding.add(std::mem::replace(&mut separator, " to "));
+        finding.pieces.push(Piece::Cell { text: view.names.slot_number(slot), team, slot });
+    }
+    finding.add(format!(", {limit}"));
+    if !slots.is_empty() {
+        finding.add(": ");
+        finding.add_slots(view.names, team, &slots, None);
+    }
+    if (slots.len() as i64) < c.kmin {
+        finding.cells = trip.iter().map(|&slot| (team, slot)).collect();
+    }
+    Some(finding)
+}
+
+pub fn asks_trips(view: &View, c: &Constraint) -> String {
+    let words = view.words();
+    let count = c.kmin as usize;
+    format!("{}: at least {}{}", words.each(c.t1), count_of(count, "trip"), words.within_slots(c.s, count))
+}
+
+/// `Birch: 1 trip that begins and ends in slots 1 to 9, at least 2: slots 4, 5; one end outside: slots 8, 10`.
+pub fn finds_trips(view: &View, c: &Constraint, subject: Subject) -> Findings {
+    let Subject::Team(team) = subject else { return Vec::new() };
+    let (counted, others): (Vec<_>, Vec<_>) = trips(view, team).into_iter().partition(|trip| counts(c, trip));
+    let by = c.kmin - counted.len() as i64;
+    if by <= 0 {
+        return Vec::new();
+    }
+    let count = count_of(counted.len(), "trip");
+    let place = view.words().within_slots(c.s, counted.len());
+    let mut finding = Finding::new(by, format!("{}: {count}{place}, at least {}", view.names.team(team), c.kmin));
+    // A trip with one end in S may be what is missing.
+    let reaches_in = |trip: &&Vec<usize>| ends(trip).iter().any(|&slot| c.has_slot(slot));
+    let outside: Vec<&Vec<usize>> = others.iter().filter(reaches_in).collect();
+    for (label, trips) in [(": ", counted.iter().collect()), ("; one end outside: ", outside)] {
+        for (at, trip) in trips.into_iter().enumerate() {
+            finding.add(if at == 0 { label } else { "; " });
+            finding.add_slots(view.names, team, trip, None);
+        }
     }
     vec![finding]
 }

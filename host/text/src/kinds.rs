@@ -22,12 +22,12 @@ pub struct Kind {
     pub number: u8,
     /// What it is about, in a few words.
     pub title: &'static str,
-    /// Whether a side (home, away, any) is named. Without one the mode is 1.
-    pub side: bool,
+    /// The sides that may be named, of `SIDES`. Without one the mode is 1.
+    pub sides: &'static [&'static str],
     /// The word for modes 4 to 6, if the kind has them.
     pub second: Option<&'static str>,
     pub kmin: bool,
-    /// The least kmax, if the kind has one.
+    /// The least kmax, if the kind has one. Where it has, kmin is at most kmax.
     pub kmax: Option<u8>,
     pub w: bool,
     /// The fewest teams of T1.
@@ -60,7 +60,7 @@ const PLAIN: Kind = Kind {
     word: "",
     number: 0,
     title: "",
-    side: true,
+    sides: &SIDES,
     second: None,
     kmin: false,
     kmax: Some(0),
@@ -74,7 +74,7 @@ const PLAIN: Kind = Kind {
     finds: explain::finds_games,
 };
 
-pub const KINDS: [Kind; 10] = [
+pub const KINDS: [Kind; 12] = [
     Kind { word: "CA1", number: 11, title: "games of a team", kmin: true, ..PLAIN },
     Kind { word: "CA2", number: 12, title: "games of a team against a group", kmin: true, t2: true, one_each: false, ..PLAIN },
     Kind {
@@ -103,12 +103,23 @@ pub const KINDS: [Kind; 10] = [
         ..PLAIN
     },
     Kind {
+        word: "CA5",
+        number: 15,
+        title: "away games of a team on each trip",
+        sides: &["away"],
+        kmin: true,
+        t2: true,
+        asks: explain::asks_games_on_trips,
+        finds: explain::finds_games_on_trips,
+        ..PLAIN
+    },
+    Kind {
         word: "GA1",
         number: 21,
         title: "fixtures in given slots",
         kmin: true,
         t2: true,
-        side: false,
+        sides: &[],
         per: [Per::Whole; 2],
         asks: explain::asks_between,
         finds: explain::finds_between,
@@ -136,10 +147,21 @@ pub const KINDS: [Kind; 10] = [
         ..PLAIN
     },
     Kind {
+        word: "BR4",
+        number: 34,
+        title: "trips of a team",
+        sides: &["away"],
+        kmin: true,
+        kmax: None,
+        asks: explain::asks_trips,
+        finds: explain::finds_trips,
+        ..PLAIN
+    },
+    Kind {
         word: "FA1",
         number: 41,
         title: "home and away games of a team in balance",
-        side: false,
+        sides: &[],
         asks: explain::asks_balance,
         finds: explain::finds_balance,
         ..PLAIN
@@ -158,7 +180,7 @@ pub const KINDS: [Kind; 10] = [
         word: "SE1",
         number: 51,
         title: "slots between two games of a pair",
-        side: false,
+        sides: &[],
         kmax: None,
         w: true,
         fewest: 2,

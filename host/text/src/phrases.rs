@@ -153,6 +153,15 @@ impl Phrases<'_> {
         }
     }
 
+    /// For a trip or several: ` that begins and ends in slots 4 to 6`, or nothing where S holds all slots.
+    pub fn within_slots(&self, group: u64, trips: usize) -> String {
+        match (self.is_all_slots(group), trips) {
+            (true, _) => String::new(),
+            (_, 0 | 1) => format!(" that begins and ends {}", self.in_slots(group)),
+            _ => format!(" that begin and end {}", self.in_slots(group)),
+        }
+    }
+
     /// `in slots 4 to 6`.
     pub fn in_run(&self, run: Range<usize>) -> String {
         match run.len() {

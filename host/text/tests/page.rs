@@ -121,7 +121,7 @@ fn check(name: &str, opened: &Opened) -> Vec<Tag> {
 #[test]
 fn samples() {
     let mut structure = String::new();
-    for name in ["season-a", "robinx-table1", "named8", "league18", "largest32", "mixed32"] {
+    for name in ["season-a", "robinx-table1", "named8", "league18", "largest32", "mixed32", "trips20"] {
         let mut counts: BTreeMap<String, usize> = BTreeMap::new();
         for tag in check(name, &sample(name)) {
             let classes = tag.attributes.get("class").map_or(String::new(), |classes| format!(".{}", classes.replace(' ', ".")));

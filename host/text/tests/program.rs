@@ -285,7 +285,7 @@ fn round_robins_are_noted() {
             "a.txt:57: note: Ash - Hazel stands twice (also in line 32)"
         ]
     );
-    for name in ["named8", "league18", "robinx-table1", "season-a"] {
+    for name in ["named8", "league18", "trips20", "robinx-table1", "season-a"] {
         folder.sample(&format!("{name}.txt"));
         assert_eq!(folder.notes(&format!("encode {name}.txt {name}.bin")), "", "{name}");
     }
@@ -338,7 +338,7 @@ fn reports() {
         folder.sample(&format!("{name}.txt"));
         compare_stored(&format!("{name}.report"), &folder.good(&format!("report {name}.txt")));
     }
-    for name in ["league18", "largest32", "mixed32"] {
+    for name in ["league18", "largest32", "mixed32", "trips20"] {
         folder.sample(&format!("{name}.txt"));
         compare_stored(&format!("{name}.report"), &digest(&folder.good(&format!("report {name}.txt"))));
     }
@@ -352,6 +352,84 @@ fn reports() {
     );
     folder.put("a.txt", "teams 32\nslots 64\ngame 0 31 64\nCA1 away hard sum weight=2 kmin=2 kmax=255 T1=31 S=60-64\n");
     assert!(folder.good("report a.txt").contains("by 1  team 31: 1 away game in slots 60 to 64, at least 2: slot 64"));
+}
+
+/// Ash is away in slots 1, 2 and, over a free slot, 4; at home in 5; away in 6, 7 and 8. Elm is away once.
+#[test]
+fn reports_of_trips() {
+    let folder = Folder::new("trips");
+    let names = "team 0 \"Ash\"\nteam 1 \"Birch\"\nteam 2 \"Cedar\"\nteam 3 \"Elm\"\nslot 4 \"1 May\"\n";
+    let games = "game 1 0 1\ngame 2 0 2\ngame 3 0 4\ngame 0 3 5\ngame 1 0 6\ngame 2 0 7\ngame 3 0 8\n";
+    let of = |constraint: &str| {
+        folder.put("a.txt", format!("teams 4\nslots 8\n{names}{games}{constraint}\n"));
+        let report = folder.good("report a.txt");
+        let lines: Vec<String> =
+            report.lines().map(str::trim).skip_while(|line| !line.starts_with("asks: ")).map(str::to_string).collect();
+        assert!(lines[1].starts_with("penalty: weight"), "{report}");
+        [&lines[..1], &lines[2..]].concat()
+    };
+    assert_eq!(
+        of("BR4 away soft sum weight=1 kmin=3 T1=0,3 S=all"),
+        [
+            "asks: each of Ash, Elm: at least 3 trips",
+            "by 1  Ash: 2 trips, at least 3: slots 1, 2, 4 (1 May); slots 6, 7, 8",
+            "by 3  Elm: no trip, at least 3"
+        ]
+    );
+    assert_eq!(
+        of("BR4 away hard sum weight=1 kmin=2 T1=0 S=2-8"),
+        [
+            "asks: Ash: at least 2 trips that begin and end in slots 2 to 8",
+            "by 1  Ash: 1 trip that begins and ends in slots 2 to 8, at least 2: slots 6, 7, 8; one end outside: slots 1, 2, 4 (1 May)"
+        ]
+    );
+    assert_eq!(
+        of("BR4 away hard sum weight=1 kmin=1 T1=all S=2,3"),
+        [
+            "asks: each team: at least 1 trip that begins and ends in slots 2, 3",
+            "by 1  Ash: no trip that begins and ends in slots 2, 3, at least 1",
+            "by 1  Birch: no trip that begins and ends in slots 2, 3, at least 1",
+            "by 1  Cedar: no trip that begins and ends in slots 2, 3, at least 1",
+            "by 1  Elm: no trip that begins and ends in slots 2, 3, at least 1"
+        ]
+    );
+    assert_eq!(
+        of("CA5 away soft sum weight=1 kmax=2 T1=all T2=all S=all"),
+        [
+            "asks: each team: at most 2 away games on each trip",
+            "by 2  Ash: 3 away games on the trip in slots 1 to 4 (1 May), at most 2: slots 1, 2, 4 (1 May)",
+            "Ash: 3 away games on the trip in slots 6 to 8, at most 2: slots 6, 7, 8"
+        ]
+    );
+    assert_eq!(
+        of("CA5 away soft sum weight=1 kmin=0 kmax=1 T1=0 T2=1,3 S=1,4"),
+        [
+            "asks: Ash: at most 1 away game against Birch, Elm on each trip that begins and ends in slots 1, 4 (1 May)",
+            "by 1  Ash: 2 away games against Birch, Elm on the trip in slots 1 to 4 (1 May), at most 1: slots 1, 4 (1 May)"
+        ]
+    );
+    assert_eq!(
+        of("CA5 away soft sum weight=1 kmin=2 kmax=2 T1=0 T2=0,2 S=5-8"),
+        [
+            "asks: Ash: exactly 2 away games against Ash, Cedar on each trip that begins and ends in slots 5 to 8",
+            "by 1  Ash: 1 away game against Ash, Cedar on the trip in slots 6 to 8, at least 2: slot 7"
+        ]
+    );
+    assert_eq!(
+        of("CA5 away soft sum weight=1 kmin=1 kmax=2 T1=0 T2=0 S=5-8"),
+        [
+            "asks: Ash: 1 to 2 away games against Ash on each trip that begins and ends in slots 5 to 8",
+            "by 1  Ash: no away game against Ash on the trip in slots 6 to 8, at least 1"
+        ]
+    );
+    // Where a game is missing on a trip, its games are marked on the page, and the ends of the trip lead to them.
+    folder.good("page a.txt a.html");
+    let page = String::from_utf8(folder.get("a.html")).unwrap();
+    assert!(page.contains("on the trip in slots <a href=\"#t0s6\">6</a> to <a href=\"#t0s8\">8</a>, at least 1"), "{page}");
+    for (slot, marked) in [(1, false), (5, false), (6, true), (7, true), (8, true)] {
+        let cell = page.split_once(&format!("<td id=\"t0s{slot}\"")).unwrap().1.split_once('>').unwrap().0;
+        assert_eq!(cell.contains("soft-"), marked, "slot {slot}: {cell}");
+    }
 }
 
 #[test]
@@ -434,7 +512,7 @@ fn moves() {
 #[test]
 fn the_page_on_the_text_form_is_right() {
     let folder = Folder::new("docs");
-    folder.sample("named8.txt").sample("named8.moves").sample("season-a.txt");
+    folder.sample("named8.txt").sample("named8.moves").sample("season-a.txt").sample("league18.txt").sample("trips20.txt");
     let docs = fs::read_to_string(examples().join("../docs/TEXT.md")).unwrap();
     let block = |first: &str| -> Vec<String> {
         let rest = docs.split_once(&format!("    $ season-text {first}")).unwrap_or_else(|| panic!("docs/TEXT.md: {first}")).1;
@@ -458,9 +536,11 @@ fn the_page_on_the_text_form_is_right() {
             .map(|(at, part)| if at == 0 { part } else { part.split_once(')').map_or(part, |(_, rest)| rest) })
             .collect()
     };
-    let plain: Vec<String> = report.iter().map(|line| dates(line)).collect();
+    let mut plain: Vec<String> = report.iter().map(|line| dates(line)).collect();
+    plain.extend(printed("report league18.txt"));
+    plain.extend(printed("report trips20.txt"));
     let sentences = docs.split_once("| a deviation |").unwrap().1.lines().skip(2).take_while(|line| line.starts_with('|'));
-    for sentence in sentences.filter(|line| !line.contains("team 1")) {
+    for sentence in sentences {
         let sentence = sentence.split('`').nth(1).unwrap();
         let parts: Vec<&str> = sentence.split("..").collect();
         assert!(

@@ -47,7 +47,7 @@ fn show(case: &Case) {
 
 /// The first cases are the sample seasons; of the others, one in four is damaged and one in four has spoilt books.
 fn case_of(seed: u64, case: u64) -> Case {
-    if let Some(name) = ["season-a", "league18", "largest32", "mixed32"].get(case as usize) {
+    if let Some(name) = ["season-a", "league18", "largest32", "mixed32", "trips20"].get(case as usize) {
         return sample(name);
     }
     let mut random = Random::new(seed, case);

@@ -73,8 +73,8 @@ fn every_call(name: &str, draft: &Draft) -> u64 {
 /// A season with every kind and mode several times.
 fn with_all_kinds(random: &mut Random, teams: usize, slots: usize, games: &[(u8, u8)], each: usize) -> Draft {
     let mut draft = Draft { teams, slots, games: games.to_vec(), constraints: Vec::new(), sheet: vec![0; games.len()] };
-    for (kind, modes) in KIND_MODES {
-        for mode in 1..=modes {
+    for (kind, lowest, highest) in KIND_MODES {
+        for mode in lowest..=highest {
             for _ in 0..each {
                 draft.add_constraint(random, kind, mode);
             }

@@ -18,7 +18,7 @@ fn compare(name: &str, bytes: &[u8]) {
 
 #[test]
 fn samples() {
-    for name in ["season-a", "robinx-table1", "named8", "league18", "largest32", "mixed32"] {
+    for name in ["season-a", "robinx-table1", "named8", "kinds", "league18", "largest32", "mixed32", "trips20"] {
         let (season, sheet) = example_season(&format!("{name}.txt"));
         compare(name, &[season, sheet].concat());
     }

@@ -105,17 +105,18 @@ fn damaged_seasons() {
 #[test]
 fn the_table_has_every_kind_and_no_other() {
     for kind in 0..=300u32 {
-        let most = KIND_MODES.iter().find(|&&(known, _)| u32::from(known) == kind).map_or(0, |&(_, most)| most.into());
+        let known = KIND_MODES.iter().find(|&&(known, _, _)| u32::from(known) == kind);
+        let has = |mode: u32| known.is_some_and(|&(_, lowest, highest)| u32::from(lowest) <= mode && mode <= highest.into());
         for mode in 0..=300u32 {
             match helpers::kind_row(kind, mode) {
                 Some(row) => {
-                    assert!(1 <= mode && mode <= most && u32::from(row.kind) == kind, "kind {kind}, mode {mode}");
+                    assert!(has(mode) && u32::from(row.kind) == kind, "kind {kind}, mode {mode}");
                     assert!((u32::from(row.first_mode)..=u32::from(row.last_mode)).contains(&mode));
                     let name = std::str::from_utf8(&row.name[..3]).unwrap();
                     assert_eq!(row.name[3], 0);
                     assert_eq!(season_number(name), kind, "{name}");
                 }
-                None => assert!(mode < 1 || mode > most, "kind {kind}, mode {mode}"),
+                None => assert!(!has(mode), "kind {kind}, mode {mode}"),
             }
         }
     }
@@ -127,8 +128,10 @@ fn season_number(name: &str) -> u32 {
         "CA1" => "home kmax=1 S=all",
         "CA2" | "CA4" => "home kmax=1 T2=all S=all",
         "CA3" => "home kmax=1 w=1 T2=all",
+        "CA5" => "away kmax=1 T2=all S=all",
         "GA1" => "kmax=1 T2=all S=all",
         "BR1" | "BR2" | "FA2" => "home kmax=1 S=all",
+        "BR4" => "away kmin=1 S=all",
         "FA1" => "kmax=1 S=all",
         "SE1" => "w=1",
         _ => panic!("{name}"),

@@ -38,8 +38,8 @@ impl Seen {
 
     /// Every kind and mode has had a broken constraint and one that a call changed; every refusal and verdict has come.
     fn require_all(&self, name: &str) {
-        for (kind, modes) in KIND_MODES {
-            for mode in 1..=modes {
+        for (kind, lowest, highest) in KIND_MODES {
+            for mode in lowest..=highest {
                 assert!(
                     self.positive.get(&(kind, mode)).is_some_and(|&n| n > 20),
                     "{name}: kind {kind}, mode {mode} is never broken"

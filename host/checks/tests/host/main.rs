@@ -12,3 +12,4 @@ mod report;
 mod samples;
 mod table1;
 mod text;
+mod trips;

@@ -27,8 +27,8 @@ fn compare_all(name: &str, bytes: &[u8], sheet: &[u8], ledger: usize, tally: usi
 fn all_kinds(random: &mut Random, shape: Shape) -> Draft {
     let mut draft = Draft::random(random, shape);
     draft.constraints.clear();
-    for (kind, modes) in KIND_MODES {
-        for mode in 1..=modes {
+    for (kind, lowest, highest) in KIND_MODES {
+        for mode in lowest..=highest {
             draft.add_constraint(random, kind, mode);
         }
     }
@@ -103,6 +103,86 @@ fn by_hand() {
         assert_eq!(reply, wanted, "{in_season:?} {in_sheet:?} {call:?}");
         let untouched = lent.sheet() == books.sheet && lent.ledger() == books.ledger && lent.tally() == books.tally;
         assert!(untouched && lent.season() == season, "{call:?} writes although it is refused");
+    }
+}
+
+/// What CA5 and BR4 allow: each rule once kept and once broken.
+#[test]
+fn rules_of_trips() {
+    let br4 = [34, 2, 1, 1, 1, 2, 0, 0];
+    let ca5 = [15, 2, 1, 1, 1, 1, 2, 0];
+    // head; T1, T2 and S of 4 teams and 3 slots; whether it is allowed
+    let mut cases = vec![
+        (br4, [15, 0, 7], true),
+        (br4, [1, 0, 7], true),
+        (br4, [8, 0, 4], true),
+        (br4, [0, 0, 7], false),
+        (br4, [16, 0, 7], false),
+        (br4, [15, 1, 7], false),
+        (br4, [15, 15, 7], false),
+        (br4, [15, 0, 0], false),
+        (br4, [15, 0, 8], false),
+        (ca5, [15, 15, 7], true),
+        (ca5, [1, 1, 1], true),
+        (ca5, [8, 1, 4], true),
+        (ca5, [0, 1, 7], false),
+        (ca5, [15, 0, 7], false),
+        (ca5, [15, 16, 7], false),
+        (ca5, [15, 1, 0], false),
+        (ca5, [15, 1, 8], false),
+    ];
+    // head, place and value of a byte
+    for (head, t2, at, value, allowed) in [
+        // the only mode is 2
+        (br4, 0, 1, 0, false),
+        (br4, 0, 1, 1, false),
+        (br4, 0, 1, 3, false),
+        (br4, 0, 1, 5, false),
+        (ca5, 1, 1, 0, false),
+        (ca5, 1, 1, 1, false),
+        (ca5, 1, 1, 3, false),
+        (ca5, 1, 1, 5, false),
+        // hardness, functions, weight
+        (br4, 0, 2, 2, false),
+        (br4, 0, 3, 0, false),
+        (br4, 0, 3, 5, true),
+        (br4, 0, 3, 6, false),
+        (br4, 0, 4, 0, false),
+        (ca5, 1, 2, 0, true),
+        (ca5, 1, 3, 5, true),
+        (ca5, 1, 3, 6, false),
+        (ca5, 1, 4, 0, false),
+        // BR4: any kmin, no kmax
+        (br4, 0, 5, 0, true),
+        (br4, 0, 5, 255, true),
+        (br4, 0, 6, 1, false),
+        (br4, 0, 6, 2, false),
+        (br4, 0, 6, 255, false),
+        // CA5: kmin up to kmax
+        (ca5, 1, 5, 0, true),
+        (ca5, 1, 5, 2, true),
+        (ca5, 1, 5, 3, false),
+        (ca5, 1, 6, 0, false),
+        (ca5, 1, 6, 1, true),
+        (ca5, 1, 6, 255, true),
+        // no w
+        (br4, 0, 7, 1, false),
+        (ca5, 1, 7, 1, false),
+    ] {
+        let mut head = head;
+        head[at] = value;
+        cases.push((head, [15, t2, 7], allowed));
+    }
+    for (head, [t1, t2, s], allowed) in cases {
+        let body = [t1, 0, 0, 0, t2, 0, 0, 0, s, 0, 0, 0, 0, 0, 0, 0];
+        let draft = Draft { teams: 4, slots: 3, games: vec![], constraints: vec![(head, body)], sheet: vec![] };
+        let buffers = Buffers { sheet: vec![], ledger: vec![3; t1.count_ones() as usize], tally: vec![3; 3] };
+        let mut lent = Lent::new(&draft.bytes(), &buffers);
+        let reply = lent.call(Call::Open);
+        let refusal = reply.declined.then_some(reply.number);
+        assert_eq!(refusal, if allowed { None } else { Some(5) }, "{head:?}, T1 {t1}, T2 {t2}, S {s}");
+        let untouched = lent.ledger() == buffers.ledger && lent.tally() == buffers.tally;
+        assert_eq!(untouched, !allowed, "{head:?}, T1 {t1}, T2 {t2}, S {s}");
     }
 }
 
@@ -196,8 +276,8 @@ fn every_field_of_every_kind() {
 #[test]
 fn small_groups() {
     let mut seen = BTreeMap::new();
-    for (kind, modes) in KIND_MODES {
-        for mode in 0..=modes + 1 {
+    for (kind, _, highest) in KIND_MODES {
+        for mode in 0..=highest + 1 {
             let mut random = Random::new(seed(32), u64::from(kind) * 16 + u64::from(mode));
             let mut draft = Draft { teams: 4, slots: 3, games: vec![(0, 1), (2, 3)], constraints: Vec::new(), sheet: vec![1, 1] };
             draft.add_constraint(&mut random, kind, 1);

@@ -43,7 +43,7 @@ fn samples() {
     }
     assert_eq!(compare(&program, "season A, cut", &season_a[..5]), "refused 1\n");
     compare(&program, "season A, longer", &[&season_a[..], &[0]].concat());
-    for name in ["league18", "largest32", "mixed32", "robinx-table1"] {
+    for name in ["league18", "largest32", "mixed32", "trips20", "robinx-table1"] {
         let (season, sheet) = example_season(&format!("{name}.txt"));
         compare(&program, name, &[season, sheet].concat());
     }

@@ -35,6 +35,11 @@ fn mixed32() {
 }
 
 #[test]
+fn trips20() {
+    follow("trips20");
+}
+
+#[test]
 fn season_a_in_both_forms() {
     let (season, sheet) = example_season("season-a.txt");
     assert_eq!([season, sheet].concat(), example("season-a.bin"));

@@ -5,7 +5,7 @@ use season_text::{decode, encode};
 
 #[test]
 fn the_examples_are_as_decode_writes_them() {
-    for name in ["season-a", "league18", "largest32", "mixed32"] {
+    for name in ["season-a", "league18", "largest32", "mixed32", "trips20"] {
         let text = String::from_utf8(example(&format!("{name}.txt"))).unwrap();
         let encoded = encode(&text).unwrap();
         let bytes = [encoded.season, encoded.sheet].concat();
@@ -109,6 +109,19 @@ fn faults_are_named_with_their_line() {
         ("+CA2 home hard sum weight=1 kmax=1 T1=0 T2=1 S=all\n", 5, "CA2 needs more than one team in T1 or in T2"),
         ("+CA4 home hard sum weight=1 kmax=1 T1=0 T2=1 S=all\n", 5, "CA4 needs at least two teams in T1"),
         ("+BR2 home hard sum weight=1 kmax=0 T1=all S=all\n", 5, "kmax has to be a number from 1 to 255, not '0'"),
+        ("+BR4 hard sum weight=1 kmin=1 T1=all S=all\n", 5, "BR4 needs its side, away"),
+        ("+BR4 home hard sum weight=1 kmin=1 T1=all S=all\n", 5, "'home': the side of BR4 is away"),
+        ("+BR4 exactly away hard sum weight=1 kmin=1 T1=all S=all\n", 5, "'exactly' is not known in a line of BR4"),
+        ("+BR4 away hard sum weight=1 T1=all S=all\n", 5, "BR4 needs kmin=N"),
+        ("+BR4 away hard sum weight=1 kmin=1 kmax=2 T1=all S=all\n", 5, "BR4 has no field kmax"),
+        ("+BR4 away hard sum weight=1 kmin=1 w=2 T1=all S=all\n", 5, "BR4 has no field w"),
+        ("+BR4 away hard sum weight=1 kmin=1 T1=all T2=all S=all\n", 5, "BR4 has no field T2"),
+        ("+BR4 away hard sum weight=1 kmin=1 T1=all\n", 5, "BR4 needs S=SLOTS"),
+        ("+CA5 any hard sum weight=1 kmax=1 T1=0 T2=1 S=all\n", 5, "'any': the side of CA5 is away"),
+        ("+CA5 away hard sum weight=1 kmin=1 T1=0 T2=1 S=all\n", 5, "CA5 needs kmax=N"),
+        ("+CA5 away hard sum weight=1 kmin=2 kmax=1 T1=0 T2=1 S=all\n", 5, "kmin 2 is above kmax 1"),
+        ("+CA5 away hard sum weight=1 kmax=1 T1=0 S=all\n", 5, "CA5 needs T2=TEAMS"),
+        ("+CA5 away hard sum weight=1 kmax=1 w=1 T1=0 T2=1 S=all\n", 5, "CA5 has no field w"),
         ("+SE1 hard sum weight=1 w=0 T1=all\n", 5, "w has to be a number from 1 to 255, not '0'"),
         ("+SE1 hard sum weight=1 kmax=0 w=1 T1=all\n", 5, "SE1 has no field kmax"),
     ];
@@ -122,6 +135,28 @@ fn faults_are_named_with_their_line() {
     let constraints = format!("{season}{}", "SE1 hard sum weight=1 w=1 T1=all\n".repeat(1025));
     assert_eq!(encode(&constraints).unwrap_err().to_string(), "line 1029: there are more than 1024 constraints");
     assert_eq!(encode("").unwrap_err().to_string(), "there is no line 'teams N'\nthere is no line 'slots N'");
+    // A side that a kind does not have is told once, not as missing too.
+    let side = format!("{season}BR4 home hard sum weight=1 kmin=1 T1=all S=all\n");
+    assert_eq!(encode(&side).unwrap_err().to_string(), "line 5: 'home': the side of BR4 is away");
+}
+
+/// What the lines of CA5 and BR4 stand for, byte by byte, and as `decode` writes them.
+#[test]
+fn lines_of_trips() {
+    let cases = [
+        ("BR4 away soft sum weight=5 kmin=2 T1=all S=all", [34, 2, 0, 1, 5, 2, 0, 0], [15, 0, 7]),
+        ("BR4 away hard max weight=255 kmin=255 T1=3 S=2", [34, 2, 1, 5, 255, 255, 0, 0], [8, 0, 2]),
+        ("CA5 away hard sum weight=10 kmin=0 kmax=1 T1=0 T2=2,3 S=1,2", [15, 2, 1, 1, 10, 0, 1, 0], [1, 12, 3]),
+        ("CA5 away soft sum-sq weight=1 kmin=2 kmax=2 T1=0-2 T2=3 S=all", [15, 2, 0, 3, 1, 2, 2, 0], [7, 8, 7]),
+    ];
+    for (line, head, [t1, t2, s]) in cases {
+        let encoded = encode(&format!("teams 4\nslots 3\n{line}\n")).unwrap();
+        let body = [t1, 0, 0, 0, t2, 0, 0, 0, s, 0, 0, 0, 0, 0, 0, 0];
+        assert_eq!(encoded.season[6..], [&head[..], &body].concat(), "{line}");
+        assert_eq!(encoded.deviations, t1.count_ones() as usize, "{line}");
+        let text = decode(&[encoded.season, encoded.sheet].concat()).unwrap();
+        assert!(text.ends_with(&format!("\n{line}  # 0\n")), "{text}");
+    }
 }
 
 #[test]
@@ -141,6 +176,8 @@ fn damaged_bytes_are_named() {
     assert_eq!(told(8, 9), "game 2: '9' is not a team; teams are 0 to 3");
     assert_eq!(told(18, 10), "constraint 0: no kind has the number 10");
     assert_eq!(told(27, 7), "constraint 1: BR2 has no mode 7");
+    assert_eq!(told(26, 34), "constraint 1: BR4 has no mode 3");
+    assert_eq!(told(42, 15), "constraint 3: CA5 has no field w");
     assert_eq!(told(36, 2), "constraint 2: hard is 1 or 0, not 2");
     assert_eq!(told(45, 0), "constraint 3: no function has the number 0");
     assert_eq!(told(25, 1), "constraint 0: CA1 has no field w");
