@@ -11,7 +11,7 @@ use Rattle.robinx.specs.Groups.{has}
 use Rattle.robinx.specs.Timetable.{side, homeSide, awaySide, anySide, gamesIn, breakOn, breaksIn}
 use Rattle.robinx.specs.Deviations.{over, breaks}
 use Rattle.robinx.specs.declared.Constraint.{Constraint}
-use Rattle.robinx.proofs.Sums.{only-bound, only-le, sum-add, sum-zero, sum-bound}
+use Rattle.robinx.proofs.Sums.{only-bound, only-le, only-none, sum-add, sum-zero, sum-bound}
 use Rattle.robinx.proofs.Ext.{sum-ext, over-ext, lastWas-ext}
 use Rattle.masks.specs.Masks.{isBreak}
 use Rattle.masks.proofs.Width.{over-stop}
@@ -33,10 +33,6 @@ over-add : (P S : ℕ) (f g : ℕ → ℕ) → over P S (λ k. f k + g k) ≡ ov
 unfolding over
 over-add P S f g =
     sum-ext P (λ k l. only-add (has S k) (f k) (g k)) ∙ sum-add (λ k. only (has S k) (f k)) (λ k. only (has S k) (g k)) P
-
-only-none : (b : Bool) → only b 0 ≡ 0
-only-none true = refl
-only-none false = refl
 
 over-asked : (P S : ℕ) (b : Bool) (q : ℕ → Bool) → over P S (λ k. only (b && q k) 1) ≡ only b (over P S (λ k. only (q k) 1))
 unfolding over

@@ -10,6 +10,7 @@ pub mod Bits
 pub mod SetBits
 pub mod Stops
 pub mod Trips
+pub mod TripFormula
 pub mod Lengths
 pub mod Filled
 pub mod Agree

@@ -5,7 +5,7 @@ use mathlib.Core.Bool.{Bool, true, false, _&&_, _||_, or-true, or-false, true≢
 use Prim.Native.Nat.{ℕ, zero, suc, _+_, _*_, _<_, _≤_, max}
 use native.Mathlib.Omega.{arith}
 use native.Mathlib.Numerals.{add-one}
-use native.Mathlib.Nat.{add-zero}
+use native.Mathlib.Nat.{add-zero, add-suc}
 use native.Mathlib.Decide.{ℕ-discrete, decLt}
 use lib.Dec.{ltb}
 use borrow.Author.Tests.{lt-ltb, ltb-true}
@@ -34,6 +34,10 @@ only-yes false v h = let z : ⊥ = omega arith in absurd z
 pub only-bound : (b : Bool) {v B : ℕ} → v ≤ B → only b v ≤ B
 only-bound b {v} {B} h = omega (arith, only-le b v)
 
+pub only-none : (b : Bool) → only b 0 ≡ 0
+only-none true = refl
+only-none false = refl
+
 -- One more turn of a loop: each definition at k + 1.
 pub sum-step : (f : ℕ → ℕ) (k : ℕ) → sumTo f (k + 1) ≡ sumTo f k + f k
 unfolding sumTo
@@ -51,11 +55,16 @@ pub any-step : (p : ℕ → Bool) (k : ℕ) → anyTo p (k + 1) ≡ anyTo p k ||
 unfolding anyTo
 any-step p k = rw add-one
 
--- A sum's first term apart, and sums of sums.
+-- A sum's first term apart, a sum in two parts, and sums of sums.
 pub sum-shift : (f : ℕ → ℕ) (n : ℕ) → sumTo f (suc n) ≡ f 0 + sumTo (λ k. f (suc k)) n
 unfolding sumTo
 sum-shift f zero = omega arith
 sum-shift f (suc n) = omega (arith, sum-shift f n)
+
+pub sum-split : (f : ℕ → ℕ) (a w : ℕ) → sumTo f (a + w) ≡ sumTo f a + sumTo (λ d. f (a + d)) w
+unfolding sumTo
+sum-split f a zero = rw (add-zero a) (omega arith)
+sum-split f a (suc w) = rw (add-suc a w) (omega (arith, sum-split f a w))
 
 pub sum-zero : {f : ℕ → ℕ} (n : ℕ) → ((k : ℕ) → k < n → f k ≡ 0) → sumTo f n ≡ 0
 unfolding sumTo

@@ -1,6 +1,6 @@
 -- Trips by equal tests of slots, trips of a team that plays away in none from P on, and how large sums over them are. Assumes nothing.
 use mathlib.Core.Path.{_≡_, refl, ap, ap₂, _∙_}
-use mathlib.Core.Bool.{Bool, true, false, _&&_, _||_, not}
+use mathlib.Core.Bool.{Bool, false, _&&_, _||_, not, and-false}
 use Prim.Native.Nat.{ℕ, suc, _*_, _<_, _≤_}
 use native.Mathlib.Omega.{arith}
 use lib.Dec.{leb}
@@ -40,22 +40,15 @@ module _ {p p′ q q′ : ℕ → Bool} (P : ℕ) (away : (k : ℕ) → k < P �
   unfolding overTrips
   overTrips-ext S h = sum-ext P (λ a l. ap₂ only (tripCounts-ext S a l) (h a l))
 
-and-no : (a : Bool) {b : Bool} → b ≡ false → a && b ≡ false
-and-no true e = e
-and-no false e = refl
-
-only-no : {b : Bool} (v : ℕ) → b ≡ false → only b v ≡ 0
-only-no v e = rw e refl
-
 -- no away game from P on
 module _ (P N : ℕ) (l : P ≤ N) (p q : ℕ → Bool) (none : (k : ℕ) → P ≤ k → k < N → p k ≡ false) where
   off-trip : (a k : ℕ) → P ≤ k → k < N → onTrip p q a k ≡ false
   unfolding onTrip
-  off-trip a k h h′ = rw (and-no (leb a k) (none k h h′)) refl
+  off-trip a k h h′ = rw (none k h h′, and-false) refl
 
   pub alongTrip-stop : (a : ℕ) (f : ℕ → ℕ) → alongTrip p q N a f ≡ alongTrip p q P a f
   unfolding alongTrip
-  alongTrip-stop a f = sum-stop P N l _ (λ k h h′. only-no (f k) (off-trip a k h h′))
+  alongTrip-stop a f = sum-stop P N l _ (λ k h h′. ap (λ (b : Bool). only b (f k)) (off-trip a k h h′))
 
   tripCounts-stop : (S a : ℕ) → tripCounts p q N S a ≡ tripCounts p q P S a
   unfolding tripCounts lastWas

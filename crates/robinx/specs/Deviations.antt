@@ -64,7 +64,8 @@ devCA4 n P c x =
     (outside (c .kmin) (c .kmax) (over P (slotsOf c) (λ k. gamesBetween n x (side (c .mode)) (c .t1) (c .t2) k)) ∷ [])
     (each P (slotsOf c) (λ k. outside (c .kmin) (c .kmax) (gamesBetween n x (side (c .mode)) (c .t1) (c .t2) k)))
 
--- the sum of f over a team's trips that count, and the team's games against T2 on the one from a, whatever their slots
+-- The sum of f over a team's trips that count, and the team's games against T2 on the one from a, whatever their slots. RobinX sums over s1 and
+-- s2 in S with a trip from s1 to s2, and over the slots s1 to s2: the same numbers (`formula-BR4`, `formula-CA5`).
 unfoldable pub trips : ℕ → ℕ → Constraint → X → ℕ → (ℕ → ℕ) → ℕ
 trips n P c x t f = overTrips (plays n x awaySide t) (plays n x homeSide t) P (slotsOf c) f
 

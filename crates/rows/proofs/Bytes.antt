@@ -9,11 +9,10 @@ use lib.Pow.{pow-add, shr-shr}
 use Rattle.robinx.specs.Season.{mostSlots}
 use Rattle.robinx.specs.Sums.{sumTo}
 use Rattle.robinx.specs.Groups.{bit}
-use Rattle.robinx.proofs.Sums.{sum-bound}
+use Rattle.robinx.proofs.Sums.{sum-bound, sum-split}
 use Rattle.robinx.proofs.Ext.{sum-ext}
 use Rattle.rows.specs.Rows.{upTo, packed, byte}
 use Rattle.robinx.proofs.Bits.{bit-lt, shift-bit, mod-bit}
-use Rattle.rows.proofs.Rows.{sum-split}
 
 -- below n, f is a byte
 abbrev Bytes : (ℕ → ℕ) → ℕ → Type 0

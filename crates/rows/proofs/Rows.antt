@@ -14,6 +14,7 @@ use Rattle.robinx.specs.Season.{mostSlots}
 use Rattle.robinx.specs.Sums.{sumTo, maxTo, only, dist}
 use Rattle.robinx.specs.Groups.{bit, has}
 use Rattle.robinx.specs.Deviations.{worst, outside, inRun}
+use Rattle.robinx.proofs.Sums.{sum-split}
 use Rattle.robinx.proofs.Ext.{sum-ext, max-ext}
 use Rattle.rows.specs.Rows.{Holds, marked, laid, HoldsAt, upTo, laidAt, farthestTo, runsTo}
 use Rattle.robinx.proofs.Bits.{at-bits}
@@ -41,12 +42,6 @@ unfolding laid
 laid-holds row f zero l = below-none (λ i. getD row i 0 ≡ f i)
 laid-holds row f (suc k) l =
     rw (← add-one) (holds-more (laid row f k) f k (omega (arith, laid-length row f k)) (laid-holds row f k (omega arith)))
-
--- a sum in two parts
-pub sum-split : (f : ℕ → ℕ) (a w : ℕ) → sumTo f (a + w) ≡ sumTo f a + sumTo (λ d. f (a + d)) w
-unfolding sumTo
-sum-split f a zero = rw (add-zero a) (omega arith)
-sum-split f a (suc w) = rw (add-suc a w) (omega (arith, sum-split f a w))
 
 -- the increases of a row of counts are the counts of the runs
 pub runs-of : (row : List ℕ) (v w low high n : ℕ) → n ≤ mostSlots + 1 - w → Holds row (sumTo (bit v)) (mostSlots + 1)
