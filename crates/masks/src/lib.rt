@@ -184,7 +184,8 @@ pub fn stretch(m: Slots, a: u64, b: u64) -> Slots
     front(m, b) ^ front(m, a)
 }
 
-// The mask's last slot is in s; a mask without one has none there. Of its slots in s and the others, those with the last one are the larger number.
+// The mask's last slot is in s; not so if it has none. Read as numbers, its slots in s are more than its other slots if the last one is among
+// them, and less if not.
 pub fn last_in(m: Slots, s: Slots) -> bool
     ensures { λ r. ⌜ r ≡ lastWas (has m) (has s) mostSlots ⌝ }
 {
