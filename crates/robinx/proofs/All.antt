@@ -19,8 +19,9 @@ use Rattle.robinx.specs.PlainSheet.{plainFault, plainNext, plainAfter, c
 
 unfoldable pub all : Unit {0}
 unfolding sumTo maxTo catTo anyTo size pairs number teams slots games constraints seasonLength homeTeams awayTeams constraintFrom decode
-    isAt meetings gamesWith gamesIn gamesAgainst gamesUpTo between gamesBetween plays lastWas breakOn breaksIn startsTrip onTrip alongTrip tripCounts overTrips meet lastSlot collide clash
-    kindOf asksOf formOf asksAt formAt each eachPair over worst devCA1 devCA2 inRun devCA3 devCA4 trips tripGames devCA5 devGA1 breaks devBR1 devBR2 devBR4 devFA1 devFA2 tooClose devSE1
+    isAt meetings gamesWith gamesIn gamesAgainst gamesUpTo between gamesBetween plays lastWas breakOn breaksIn
+    startsTrip onTrip alongTrip tripCounts overTrips meet lastSlot collide clash kindOf asksOf formOf asksAt formAt each eachPair over worst
+    devCA1 devCA2 inRun devCA3 devCA4 trips tripGames devCA5 devGA1 breaks devBR1 devBR2 devBR4 devFA1 devFA2 tooClose devSE1
     deviationsOf deviations entries teamsTouch slotTouches scopeOf touches sum sumOfSquares largest smallest combine penalty keeps obeys
     startAt total freshLedger freshTally verdict sentence1 sentence2 sentence3 encounters badGame sentence4 sentence5 sentence6 sentence7 sentence8
     sentence9 sentence10 sentence11 sentence12 sentence13 firstTrue openFault opened openCall moved touched stretchAt gained lost change reworked callFault

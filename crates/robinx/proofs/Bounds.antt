@@ -11,7 +11,8 @@ use lib.ListN.{length, getD}
 use Rattle.robinx.specs.Sums.{sumTo, catTo, only, onlyL}
 use Rattle.robinx.specs.Season.{slotsOf, mostTeams, mostSlots, mostByte}
 use Rattle.robinx.specs.Groups.{has, size, isPair, pairs}
-use Rattle.robinx.specs.Timetable.{X, side, homeSide, awaySide, firstModes, gamesWith, gamesIn, gamesAgainst, gamesUpTo, between, gamesBetween, plays, breakOn, breaksIn, meet}
+use Rattle.robinx.specs.Timetable.{X, side, homeSide, awaySide, firstModes}
+use Rattle.robinx.specs.Timetable.{gamesWith, gamesIn, gamesAgainst, gamesUpTo, between, gamesBetween, plays, breakOn, breaksIn, meet}
 use Rattle.robinx.specs.Kinds.{Kind, kindOf, formAt}
 use Rattle.robinx.specs.Deviations.{each, eachPair, over, worst, outside, offTarget, inRun, trips, tripGames, breaks, tooClose, deviationsOf, deviations, inShape, entries}
 use Rattle.robinx.specs.Deviations.{devCA1, devCA2, devCA3, devCA4, devCA5, devGA1, devBR1, devBR2, devBR4, devFA1, devFA2, devSE1}

@@ -7,7 +7,8 @@ use lib.Dec.{ltb}
 use Rattle.robinx.specs.Sums.{sumTo, maxTo, catTo, only, onlyL, dist}
 use Rattle.robinx.specs.Season.{slotsOf}
 use Rattle.robinx.specs.Groups.{has, size, isPair, pairs}
-use Rattle.robinx.specs.Timetable.{X, side, homeSide, awaySide, firstModes, gamesIn, gamesAgainst, gamesUpTo, gamesBetween, plays, breaksIn, alongTrip, overTrips, meet, lastSlot}
+use Rattle.robinx.specs.Timetable.{X, side, homeSide, awaySide, firstModes, plays, gamesIn, gamesAgainst, gamesUpTo, gamesBetween}
+use Rattle.robinx.specs.Timetable.{breaksIn, alongTrip, overTrips, meet, lastSlot}
 use Rattle.robinx.specs.Kinds.{Kind, kindOf, formAt}
 use Rattle.robinx.specs.declared.Shape.{Shape}
 use Rattle.robinx.specs.declared.Shape.the-variants.{Nothing, One, EachTeam, EachPair, OneOrEachSlot}
@@ -64,15 +65,16 @@ devCA4 n P c x =
     (outside (c .kmin) (c .kmax) (over P (slotsOf c) (λ k. gamesBetween n x (side (c .mode)) (c .t1) (c .t2) k)) ∷ [])
     (each P (slotsOf c) (λ k. outside (c .kmin) (c .kmax) (gamesBetween n x (side (c .mode)) (c .t1) (c .t2) k)))
 
--- The sum of f over a team's trips that count, and the team's games against T2 on the one from a, whatever their slots. RobinX sums over s1 and
--- s2 in S with a trip from s1 to s2, and over the slots s1 to s2: the same numbers (`formula-BR4`, `formula-CA5`).
+-- the sum of f over the trips of team t that count, by their first slots
 unfoldable pub trips : ℕ → ℕ → Constraint → X → ℕ → (ℕ → ℕ) → ℕ
 trips n P c x t f = overTrips (plays n x awaySide t) (plays n x homeSide t) P (slotsOf c) f
 
+-- the games of team t against T2 on the trip from a, in S or not
 unfoldable pub tripGames : ℕ → ℕ → Constraint → X → ℕ → ℕ → ℕ
 tripGames n P c x t a = alongTrip (plays n x awaySide t) (plays n x homeSide t) P a (gamesAgainst n x awaySide (c .t2) t)
 
--- CA5: in each trip its games against T2; their deviations are summed
+-- CA5: on each trip the games against T2; their deviations are summed. RobinX, where a(i, s1, s2) is 1 for a trip of i from s1 to s2, else 0:
+-- d(i) = Σ s1 ∈ S, s2 ∈ S, s2 > s1 : a(i, s1, s2) · max(kmin − v; v − kmax; 0) with v = Σ j ∈ T2, s1 ≤ s3 ≤ s2 : x(j, i, s3); `formula-CA5`
 unfoldable pub devCA5 : ℕ → ℕ → Constraint → X → List ℕ
 devCA5 n P c x = each n (c .t1) (λ t. trips n P c x t (λ a. outside (c .kmin) (c .kmax) (tripGames n P c x t a)))
 
@@ -92,7 +94,7 @@ devBR1 n P c x = each n (c .t1) (λ t. offTarget (firstModes (c .mode)) (c .kmax
 unfoldable pub devBR2 : ℕ → ℕ → Constraint → X → List ℕ
 devBR2 n P c x = offTarget (firstModes (c .mode)) (c .kmax) (sumTo (λ t. only (has (c .t1) t) (breaks n P c x t)) n) ∷ []
 
--- BR4: how many trips fewer than kmin each team has
+-- BR4: how many trips fewer than kmin each team has. RobinX: d(i) = max(k − Σ s1 ∈ S, s2 ∈ S, s2 > s1 : a(i, s1, s2); 0); `formula-BR4`
 unfoldable pub devBR4 : ℕ → ℕ → Constraint → X → List ℕ
 devBR4 n P c x = each n (c .t1) (λ t. c .kmin - trips n P c x t (λ a. 1))
 
