@@ -32,7 +32,7 @@ shr-suc : (n k : ℕ) → n / 2 ^ suc k ≡ n / 2 ^ k / 2
 shr-suc n k = ap (λ (z : ℕ). n / 2 ^ z) (sym (add-one k)) ∙ sym (shr-shr n k 1)
 
 -- the carry into slot k of f + s · 2, less what s itself brings to k
-carry : ℕ → ℕ → ℕ → ℕ
+unfoldable pub carry : ℕ → ℕ → ℕ → ℕ
 carry f s zero = 0
 carry f s (suc k) = bit s k + (bit f k + carry f s k) / 2
 
@@ -41,7 +41,7 @@ unfolding carry
 sum-shr f s zero = omega (arith, div-one f, div-one s, div-one (f + s * 2))
 sum-shr f s (suc k) = omega (arith, shr-suc (f + s * 2) k, shr-suc f k, shr-suc s k, sum-shr f s k)
 
-sum-bit : (f s k : ℕ) → bit (f + s * 2) k ≡ (bit f k + carry f s k) % 2
+pub sum-bit : (f s k : ℕ) → bit (f + s * 2) k ≡ (bit f k + carry f s k) % 2
 sum-bit f s k = omega (arith, sum-shr f s k)
 
 module _ (K side all : ℕ) (h : all < 2 ^ K) (part : Within side all) where

@@ -3,6 +3,7 @@ pub mod Width
 pub mod Counts
 pub mod Carry
 pub mod GapWalk
-pub mod Stretches
+pub mod Borrow
+pub mod Ends
 pub mod TripStarts
 pub mod OneFewer

@@ -24,12 +24,11 @@ Within m n = (k : ℕ) → bit m k ≤ bit n k
 abbrev pub Marks : ℕ → (ℕ → Bool) → ℕ → Type 0
 Marks n p m = (k : ℕ) → k < n → has m k ≡ p k
 
--- r is the first slot of m from a on, or 64 and there is none
-pub record FirstFrom (m a r : ℕ) : Type 0 where
-  pub from : a ≤ r
-  pub within : r ≤ mostSlots
-  pub clear : (k : ℕ) → a ≤ k → k < r → has m k ≡ false
-  pub found : r < mostSlots → has m r ≡ true
+-- r is the first slot of m
+pub record First (m r : ℕ) : Type 0 where
+  pub within : r < mostSlots
+  pub found : has m r ≡ true
+  pub clear : (k : ℕ) → k < r → has m k ≡ false
 
 -- slot k has a game of the side, and the last game before it was of the side too
 abbrev pub isBreak : ℕ → ℕ → ℕ → Bool

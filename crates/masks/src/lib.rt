@@ -1,16 +1,15 @@
 // Masks of slots: bit k of a u64 stands for slot k, counted from 0. Everything that knows that a mask is one word is in here.
 ghost use mathlib.Core.Path.{_≡_};
-ghost use mathlib.Core.Bool.{_&&_};
 ghost use Prim.Native.Nat.{_-_, _/_, _%_, _<_, _≤_, _^_};
 ghost use lib.Bits.{bitAnd, bitOr};
 ghost use lib.Count.{ones};
-ghost use lib.Dec.{eqb, leb, ltb};
+ghost use lib.Dec.{eqb, leb};
 ghost use Rattle.robinx.specs.Season.{mostSlots};
 ghost use Rattle.robinx.specs.Sums.{only, sumTo};
 ghost use Rattle.robinx.specs.Groups.{bit, has, reaches};
-ghost use Rattle.robinx.specs.Timetable.{lastWas, startsTrip};
+ghost use Rattle.robinx.specs.Timetable.{lastWas, startsTrip, onTrip};
 ghost use Rattle.robinx.specs.Deviations.{over, tooClose};
-ghost use Rattle.masks.specs.Masks.{joined, without, Within, isBreak, Breaks, Marks, FirstFrom};
+ghost use Rattle.masks.specs.Masks.{joined, without, Within, isBreak, Breaks, Marks, First};
 use robinx::Season;
 use robinx::Slots;
 
@@ -148,21 +147,9 @@ pub fn common(m: Slots, n: Slots) -> Slots
 // The first slot of a mask that has one.
 pub fn first(m: Slots) -> u64
     requires { ⌜ 0 < m ⌝ }
-    ensures { λ r. ⌜ (r < mostSlots) × FirstFrom m 0 r ⌝ }
+    ensures { λ r. ⌜ First m r ⌝ }
 {
     u64::trailing_zeros(m) as u64
-}
-
-// The mask's first slot from a on; 64 if there is none.
-pub fn first_from(m: Slots, a: u64) -> u64
-    requires { ⌜ a < mostSlots ⌝ }
-    ensures { λ r. ⌜ FirstFrom m a r ⌝ }
-{
-    let rest = m >> a;
-    if rest == 0 {
-        return Season::SLOTS as u64;
-    }
-    a + u64::trailing_zeros(rest) as u64
 }
 
 // The mask's slots among the first p.
@@ -174,14 +161,6 @@ pub fn front(m: Slots, p: u64) -> Slots
         return m;
     }
     m & (slot(p) - 1)
-}
-
-// The mask's slots from a on and before b.
-pub fn stretch(m: Slots, a: u64, b: u64) -> Slots
-    requires { ⌜ (a ≤ b) × (b ≤ mostSlots) ⌝ }
-    ensures { λ r. ⌜ Marks mostSlots (λ k. leb a k && ltb k b && has m k) r ⌝ }
-{
-    front(m, b) ^ front(m, a)
 }
 
 // The mask's last slot is in s; not so if it has none. Read as numbers, its slots in s are more than its other slots if the last one is among
@@ -221,6 +200,16 @@ pub fn trip_starts(away: Slots, home: Slots) -> Slots
     ensures { λ r. ⌜ Marks mostSlots (startsTrip (has away) (has home)) r ⌝ }
 {
     away ^ break_mask(away, union(away, home))
+}
+
+// The slots of the run of away games that starts in slot a: up to the next home game. The home games, read as a number, less slot a: this borrows
+// from the next home game, so the slots from a up to it come in, and no others.
+pub fn trip_from(away: Slots, home: Slots, a: u64) -> Slots
+    requires { ⌜ a < mostSlots ⌝ }
+    ensures { λ r. ⌜ Marks mostSlots (onTrip (has away) (has home) a) r ⌝ }
+{
+    let less = std::num::wrapping_sub_u64(home, slot(a));
+    away & ((home | less) ^ home)
 }
 
 // How much closer than w slots two games are that are gap slots apart.

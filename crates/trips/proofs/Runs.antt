@@ -1,48 +1,21 @@
--- Runs of away games as masks: the run from a slot, what it adds, and the sum over all runs that start in S. Assumes nothing.
+-- Runs of away games as masks: what the run from a slot adds, and the sum over all runs that start in S. Assumes nothing.
 use mathlib.Core.Path.{_≡_, refl, sym, ap, ap₂, _∙_}
-use mathlib.Core.Bool.{Bool, true, false, _&&_, not, and-true, and-false, cond}
-use Prim.Native.Nat.{ℕ, suc, _*_, _<_, _≤_}
+use mathlib.Core.Bool.{Bool, true, false, _&&_, cond}
+use Prim.Native.Nat.{ℕ, _*_, _≤_}
 use native.Mathlib.Omega.{arith}
 use lib.Bits.{bitAnd}
-use lib.Dec.{eqb, leb, ltb}
-use borrow.Author.Tests.{ltb-true, ltb-false, leb-true, le-leb}
+use lib.Dec.{eqb, leb}
 use Rattle.robinx.specs.Season.{mostSlots, slotsOf}
-use Rattle.robinx.specs.Sums.{anyTo, only}
+use Rattle.robinx.specs.Sums.{only}
 use Rattle.robinx.specs.Groups.{bit, has, size}
 use Rattle.robinx.specs.Timetable.{lastWas, startsTrip, onTrip, alongTrip, tripCounts, overTrips}
 use Rattle.robinx.specs.Deviations.{over, outside}
 use Rattle.robinx.specs.declared.Constraint.{Constraint}
-use Rattle.robinx.proofs.Sums.{none-any, any-some}
 use Rattle.robinx.proofs.Ext.{sum-ext, lastWas-ext}
 use Rattle.robinx.proofs.Bits.{bit-lt, and-has}
 use Rattle.robinx.proofs.Trips.{alongTrip-le, overTrips-le}
-use Rattle.masks.specs.Masks.{Marks, FirstFrom}
+use Rattle.masks.specs.Masks.{Marks}
 use Rattle.trips.specs.TripFigures.{ofTrip, ofRun, ofMasks}
-
--- the run from a ends before the first home game from a on
-module _ (away home a z : ℕ) (f : FirstFrom home a z) where
-  none-before : (i : ℕ) → i < z → leb a i && has home i ≡ false
-  none-before i l = go (leb a i) refl
-    where
-      go : (b : Bool) → leb a i ≡ b → b && has home i ≡ false
-      go true e = f .clear i (leb-true a i e) l
-      go false e = refl
-
-  pub on-run : (k : ℕ) → k < mostSlots → leb a k && ltb k z && has away k ≡ onTrip (has away) (has home) a k
-  unfolding onTrip
-  on-run k l = go (ltb k z) refl
-    where
-      go : (t : Bool) → ltb k z ≡ t → leb a k && t && has away k ≡ leb a k && has away k && not (anyTo (λ i. leb a i && has home i) (suc k))
-      go true e =
-          rw (none-any (λ i. leb a i && has home i) (suc k) (λ i h. none-before i (omega (arith, ltb-true k z e))), and-true, and-true) refl
-      go false e =
-          let p : z ≤ k = ltb-false k z e in
-          rw (
-            any-some (λ i. leb a i && has home i) (suc k) z (omega arith) (ap₂ _&&_ (le-leb a z (f .from)) (f .found (omega arith))),
-            and-false,
-            and-false,
-          )
-          refl
 
 -- by the mask of the run
 module _ (c : Constraint) (away home wanted a run : ℕ) (m : Marks mostSlots (onTrip (has away) (has home) a) run) where

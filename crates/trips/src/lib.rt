@@ -5,9 +5,8 @@ ghost use Prim.Native.Nat.{_<_, _≤_};
 ghost use lib.Dec.{leb};
 ghost use Rattle.robinx.specs.Season.{mostSlots};
 ghost use Rattle.robinx.specs.Groups.{bit, has, size};
-ghost use Rattle.robinx.specs.Timetable.{lastWas, onTrip};
+ghost use Rattle.robinx.specs.Timetable.{lastWas};
 ghost use Rattle.robinx.specs.Deviations.{over, deviations};
-ghost use Rattle.masks.specs.Masks.{Marks};
 ghost use Rattle.tables.specs.Tables.{tables, xOf};
 ghost use Rattle.opponents.specs.Fillable.{Fillable, TiedGroup};
 ghost use Rattle.trips.specs.TripFigures.{isTripKind, ofTrip, ofTeam, ofRun, ofMasks, tripFigure};
@@ -15,11 +14,10 @@ use groups::Members;
 use masks::common;
 use masks::count_in;
 use masks::first;
-use masks::first_from;
 use masks::front;
 use masks::is_some;
 use masks::last_in;
-use masks::stretch;
+use masks::trip_from;
 use masks::trip_starts;
 use masks::without;
 use opponents::against;
@@ -31,14 +29,6 @@ use robinx::Slots;
 
 // The away side, on which trips are.
 const AWAY: u8 = 2;
-
-// The slots of the run of away games that starts in slot a: up to the next home game.
-fn trip_from(away: Slots, home: Slots, a: u64) -> Slots
-    requires { ⌜ a < mostSlots ⌝ }
-    ensures { λ r. ⌜ Marks mostSlots (onTrip (has away) (has home) a) r ⌝ }
-{
-    stretch(away, a, first_from(home, a))
-}
 
 // The run has two slots or more, and its last one is in s.
 fn ends_in(run: Slots, s: Slots) -> bool

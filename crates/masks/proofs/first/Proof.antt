@@ -1,7 +1,7 @@
 -- `masks::first` meets its contract. Assumes nothing.
 use native.Mathlib.Omega.{arith}
 use borrow.Author.Needs.{needs}
-use Rattle.masks.proofs.Stretches.{first-slot}
+use Rattle.masks.proofs.Ends.{first-slot}
 use Rattle.masks.proofs.first.Statement.{statement}
 use Rattle.masks.proofs.first.Tie as tie
 

@@ -1,6 +1,6 @@
 -- `masks::last_in` meets its contract. Assumes nothing.
 use borrow.Author.Needs.{needs}
-use Rattle.masks.proofs.Stretches.{last-larger}
+use Rattle.masks.proofs.Ends.{last-larger}
 use Rattle.masks.proofs.last_in.Statement.{statement}
 use Rattle.masks.proofs.last_in.Tie as tie
 

@@ -49,7 +49,7 @@ fewer : (c : tie.After-run-figure Inv-loop μ-loop) (g : ℕ → ℕ)
 fewer c g =
     let a = c .before .before .first in
     rw (c .before .without .ensures)
-    (over-one-fewer mostSlots (c .before .before .before .before .before .loop .rest) (a .result) g (a .ensures .0) (a .ensures .1 .found (a .ensures .0)))
+    (over-one-fewer mostSlots (c .before .before .before .before .before .loop .rest) (a .result) g (a .ensures .within) (a .ensures .found))
 
 loop-again : tie.Need-loop-again Inv-loop μ-loop
 loop-again c =
