@@ -208,8 +208,8 @@ pub fn trip_from(away: Slots, home: Slots, a: u64) -> Slots
     requires { ⌜ a < mostSlots ⌝ }
     ensures { λ r. ⌜ Marks mostSlots (onTrip (has away) (has home) a) r ⌝ }
 {
-    let less = std::num::wrapping_sub_u64(home, slot(a));
-    away & ((home | less) ^ home)
+    let borrowed = std::num::wrapping_sub_u64(home, slot(a));
+    away & ((home | borrowed) ^ home)
 }
 
 // How much closer than w slots two games are that are gap slots apart.
