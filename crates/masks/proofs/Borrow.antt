@@ -1,29 +1,25 @@
 -- One slot taken from a mask as a number: the slots that this sets are those from it up to the mask's next one. Assumes nothing.
 use mathlib.Core.Path.{_≡_, refl, sym, ap, _∙_}
-use mathlib.Core.Bool.{Bool, true, false, _&&_, _||_, not, and-false, or-true, or-false}
-use Prim.Native.Nat.{ℕ, zero, suc, _+_, _*_, _/_, _%_, _^_, _<_, _≤_, max}
+use mathlib.Core.Bool.{Bool, true, false, _&&_, _||_, not, and-true, and-false, or-true, or-false}
+use Prim.Native.Nat.{ℕ, zero, suc, _+_, _*_, _/_, _%_, _^_, _<_, _≤_}
 use native.Mathlib.Omega.{arith}
 use native.Mathlib.Nat.{div-one}
 use native.Mathlib.Decide.{ℕ-discrete, decLt}
-use lib.Bits.{bitAnd, bitOr, bitXor, differ}
+use lib.Bits.{bitAnd}
 use lib.Dec.{eqb, leb}
 use borrow.Author.Tests.{le-leb, lt-leb, eq-eqb, ne-eqb}
 use Rattle.robinx.specs.Sums.{only, anyTo}
 use Rattle.robinx.specs.Groups.{bit, has}
 use Rattle.robinx.specs.Timetable.{onTrip}
-use Rattle.robinx.proofs.Bits.{at-bits, bit-lt, out-bit, and-has, or-bit, xor-bit, one-bit, half-bit, mod-bit}
+use Rattle.robinx.proofs.Bits.{at-bits, bit-lt, out-bit, and-has, one-bit, half-bit, mod-bit}
 use Rattle.robinx.proofs.Sums.{none-any}
 use Rattle.masks.proofs.Carry.{carry, sum-bit}
+use Rattle.masks.proofs.Ends.{rest, rest-has}
 
-set-alone : (n d k : ℕ) → has (bitXor (bitOr n d) n) k ≡ not (has n k) && has d k
-set-alone n d k =
-    ap (λ (z : ℕ). eqb z 1) (xor-bit (bitOr n d) n k ∙ ap (λ (z : ℕ). differ z (bit n k)) (or-bit n d k))
-    ∙ at-bits (λ x y. eqb (differ (max x y) x) 1 ≡ not (eqb x 1) && eqb y 1) refl refl refl refl n d k
-
-in-order : (b x s y d : Bool) → (y ≡ false → d ≡ b && not s) → x && (not y && d) ≡ b && x && not (s || b && y)
-in-order true x s true d h = rw (or-true s)
-in-order false x s true d h = and-false x
-in-order true x s false d h = rw (h refl, or-false s) refl
+in-order : (b x s y d : Bool) → (y ≡ false → d ≡ b && not s) → x && (d && not y) ≡ b && x && not (s || b && y)
+in-order true x s true d h = rw (or-true s, and-false d) refl
+in-order false x s true d h = rw (and-false d) (and-false x)
+in-order true x s false d h = rw (h refl, or-false s, and-true (not s)) refl
 in-order false x s false d h = rw (h refl) (and-false x)
 
 -- d is n less slot a
@@ -93,8 +89,8 @@ module _ (K n d a : ℕ) (less : (d + 2 ^ a) % 2 ^ K ≡ n) where
       go true h = eq-eqb (bit d k) 1 (omega (arith, bit-lt d k))
       go false h = ne-eqb (bit d k) 1 (λ p. omega arith)
 
-  pub trip-has : (m k : ℕ) → k < K → has (bitAnd m (bitXor (bitOr n d) n)) k ≡ onTrip (has m) (has n) a k
+  pub trip-has : (m k : ℕ) → k < K → has (bitAnd m (rest d n)) k ≡ onTrip (has m) (has n) a k
   unfolding onTrip anyTo some reached
   trip-has m k l =
-      and-has m (bitXor (bitOr n d) n) k ∙ ap (_&&_ (has m k)) (set-alone n d k)
+      and-has m (rest d n) k ∙ ap (_&&_ (has m k)) (rest-has d n k)
       ∙ in-order (leb a k) (has m k) (some k) (has n k) (has d k) (set-where k l)

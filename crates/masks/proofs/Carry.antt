@@ -31,7 +31,7 @@ comp-bit (suc k) (suc K) w l h =
 shr-suc : (n k : ℕ) → n / 2 ^ suc k ≡ n / 2 ^ k / 2
 shr-suc n k = ap (λ (z : ℕ). n / 2 ^ z) (sym (add-one k)) ∙ sym (shr-shr n k 1)
 
--- the carry into slot k of f + s · 2, less what s itself brings to k
+-- the carry into slot k of f + s · 2, with what s itself brings to k
 unfoldable pub carry : ℕ → ℕ → ℕ → ℕ
 carry f s zero = 0
 carry f s (suc k) = bit s k + (bit f k + carry f s k) / 2

@@ -33,10 +33,10 @@ below m K h e =
     omega (arith, rw z at (split m K), mod-lt m (pow-pos K))
 
 -- the slots of m that are not in s
-abbrev rest : ℕ → ℕ → ℕ
+abbrev pub rest : ℕ → ℕ → ℕ
 rest m s = bitXor m (bitAnd m s)
 
-rest-has : (m s k : ℕ) → has (rest m s) k ≡ has m k && not (has s k)
+pub rest-has : (m s k : ℕ) → has (rest m s) k ≡ has m k && not (has s k)
 rest-has m s k =
     ap (λ (z : ℕ). eqb z 1) (xor-bit m (bitAnd m s) k ∙ ap (differ (bit m k)) (and-bit m s k))
     ∙ at-bits (λ x y. eqb (differ x (min x y)) 1 ≡ eqb x 1 && not (eqb y 1)) refl refl refl refl m s k

@@ -209,7 +209,7 @@ pub fn trip_from(away: Slots, home: Slots, a: u64) -> Slots
     ensures { λ r. ⌜ Marks mostSlots (onTrip (has away) (has home) a) r ⌝ }
 {
     let borrowed = std::num::wrapping_sub_u64(home, slot(a));
-    away & ((home | borrowed) ^ home)
+    away & (borrowed ^ (borrowed & home))
 }
 
 // How much closer than w slots two games are that are gap slots apart.

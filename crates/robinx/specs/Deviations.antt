@@ -94,7 +94,7 @@ devBR1 n P c x = each n (c .t1) (λ t. offTarget (firstModes (c .mode)) (c .kmax
 unfoldable pub devBR2 : ℕ → ℕ → Constraint → X → List ℕ
 devBR2 n P c x = offTarget (firstModes (c .mode)) (c .kmax) (sumTo (λ t. only (has (c .t1) t) (breaks n P c x t)) n) ∷ []
 
--- BR4: how many trips fewer than kmin each team has. RobinX: d(i) = max(k − Σ s1 ∈ S, s2 ∈ S, s2 > s1 : a(i, s1, s2); 0); `formula-BR4`
+-- BR4: how many trips fewer than kmin each team has. RobinX: d(i) = max(kmin − Σ s1 ∈ S, s2 ∈ S, s2 > s1 : a(i, s1, s2); 0); `formula-BR4`
 unfoldable pub devBR4 : ℕ → ℕ → Constraint → X → List ℕ
 devBR4 n P c x = each n (c .t1) (λ t. c .kmin - trips n P c x t (λ a. 1))
 
