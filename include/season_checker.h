@@ -31,8 +31,8 @@
 #endif
 
 /* CHANGELOG.md says what each version changed. The number is 10000 * major + 100 * minor + patch. */
-#define SEASON_CHECKER_VERSION "1.2.0"
-#define SEASON_CHECKER_VERSION_NUMBER 10200
+#define SEASON_CHECKER_VERSION "1.3.0"
+#define SEASON_CHECKER_VERSION_NUMBER 10300
 
 #ifdef __cplusplus
 extern "C" {
@@ -71,7 +71,7 @@ enum season_kind {
     SEASON_KIND_BR4 = 34,          /* trips of a team: two or more away games with no home game between */
     SEASON_KIND_FA1 = 41,          /* home games less away games of a team, at any time */
     SEASON_KIND_FA2 = 42,          /* games of one team less those of another, at any time */
-    SEASON_KIND_SE1 = 51           /* slots between the games of a pair */
+    SEASON_KIND_SE1 = 51           /* slots between two games of a pair */
 };
 
 /* The modes: byte 1 of a head. Modes 4 to 6 are EACH for CA4 (a count for each slot of S), EXACTLY for BR1 and BR2 (kmax is the
@@ -147,7 +147,8 @@ season_reply season_exchange(const uint8_t *season, size_t season_len, uint8_t *
 
 /* After an accepted open, as long as only these calls write sheet, ledger and tally and the season stays the same, each set and
  * exchange leaves the ledger and the tally that a fresh open of the new sheet would give. If something else wrote the ledger or the
- * tally, open again; until then set and exchange do no harm, but totals and verdict can be wrong. */
+ * tally, another version of the library among them, open again; until then set and exchange do no harm, but figures, totals and
+ * verdict can be wrong. */
 
 /* Helpers from here on. They are C code and no part of the proved library; the shared library has them as functions too, for callers
  * that cannot read this header. They read nothing beyond the length that they are given. What they answer for bytes that are no

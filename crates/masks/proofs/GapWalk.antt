@@ -32,7 +32,7 @@ pub record Summed (v w c rest : ℕ) : Type 0 where
 
 -- the game that a turn finds
 found : (v w k z : ℕ) {next : ℕ} → Turn 64 v k z next → {c last r : ℕ} → c ≤ 255 * k → r ≤ 255
-    → c ≡ sumTo (tooClose (has v) w) k → last ≡ lastSlot (has v) k → r ≡ only (ltb 0 last) (w - (k + z + 1 - last))
+    → c ≡ sumTo (tooClose (has v) w) k → last ≡ lastSlot (has v) k → r ≡ only (ltb 0 last) (w - (k + z + 1 - last - 1))
     → Summed v w (c + r) next
 unfolding sumTo tooClose lastSlot
 found v w k z t {c} b d p q e =
@@ -53,12 +53,12 @@ module _ (v w : ℕ) (h : v < 2 ^ 64) where
   unfolding sumTo lastSlot
   summed-first n = found v w 0 (trailingZeros 64 v) (first-turn 64 v h n) {last = 0} (omega arith) (omega arith) refl refl refl
 
-  pub summed-next : {c rest r : ℕ} → Summed v w c rest → (rest ≡ 0 → ⊥) → r ≡ w - (trailingZeros 64 rest + 1) → r ≤ 255
+  pub summed-next : {c rest r : ℕ} → Summed v w c rest → (rest ≡ 0 → ⊥) → r ≡ w - trailingZeros 64 rest → r ≤ 255
       → Summed v w (c + r) (rest / 2 ^ trailingZeros 64 rest / 2)
   summed-next {c} {rest} {r} s n e b =
       let k = s .behind in
       let z = trailingZeros 64 rest in
-      let gap : k + z + 1 - k ≡ z + 1 = omega arith in
+      let gap : k + z + 1 - k - 1 ≡ z = omega arith in
       found v w k z (turn 64 v k rest h (s .left) n) {r = r} (s .small) b (s .sum) (s .last) (rw (lt-ltb 0 k (s .some), gap) e)
 
   pub summed-all : {c rest : ℕ} → Summed v w c rest → rest ≡ 0 → c ≡ sumTo (tooClose (has v) w) mostSlots

@@ -212,7 +212,7 @@ pub fn trip_from(away: Slots, home: Slots, a: u64) -> Slots
     away & (borrowed ^ (borrowed & home))
 }
 
-// How much closer than w slots two games are that are gap slots apart.
+// How many slots fewer than w lie between two games that have gap slots between them.
 fn too_close(w: u8, gap: u32) -> u32
     ensures { λ r. ⌜ (r ≡ w - gap) × (r ≤ 255) ⌝ }
 {
@@ -220,7 +220,7 @@ fn too_close(w: u8, gap: u32) -> u32
     if gap < least { least - gap } else { 0 }
 }
 
-// How much closer than w slots the games of the mask are to those before them, summed: from one set bit to the next.
+// How many slots fewer than w lie between a game of the mask and the one before it, summed: from one set bit to the next.
 pub fn closeness(v: Slots, w: u8) -> u32
     ensures { λ r. ⌜ r ≡ sumTo (tooClose (has v) w) mostSlots ⌝ }
 {
@@ -232,7 +232,7 @@ pub fn closeness(v: Slots, w: u8) -> u32
     let mut rest = (v >> first) >> 1;
     while rest != 0 {
         let z = u64::trailing_zeros(rest);
-        c += too_close(w, z + 1);
+        c += too_close(w, z);
         rest = (rest >> z) >> 1;
     }
     c

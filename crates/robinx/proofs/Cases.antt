@@ -59,8 +59,8 @@ starred
     × (combine 4 (1 ∷ 0 ∷ 2 ∷ []) ≡ 0)
     × (combine 5 (1 ∷ 0 ∷ 2 ∷ []) ≡ 2)
     -- mutual games in slots 1 and 3: w 3, w 2
-    × (openWith (twice 3) (1 ∷ 3 ∷ []) 1 3 ≡ outcome (accepted 0 (pos 0) (pos 1)) (buffers (1 ∷ 3 ∷ []) (1 ∷ []) (1 ∷ 0 ∷ 1 ∷ [])))
-    × (openWith (twice 2) (1 ∷ 3 ∷ []) 1 3 ≡ outcome (accepted 0 (pos 0) (pos 0)) (buffers (1 ∷ 3 ∷ []) (0 ∷ []) (0 ∷ 0 ∷ 0 ∷ [])))
+    × (openWith (twice 3) (1 ∷ 3 ∷ []) 1 3 ≡ outcome (accepted 0 (pos 0) (pos 2)) (buffers (1 ∷ 3 ∷ []) (2 ∷ []) (2 ∷ 0 ∷ 2 ∷ [])))
+    × (openWith (twice 2) (1 ∷ 3 ∷ []) 1 3 ≡ outcome (accepted 0 (pos 0) (pos 1)) (buffers (1 ∷ 3 ∷ []) (1 ∷ []) (1 ∷ 0 ∷ 1 ∷ [])))
     -- G 0, C 0
     × (openWith (sizes 2 1 0 0) [] 0 2 ≡ outcome (accepted 0 (pos 0) (pos 0)) (buffers [] [] (0 ∷ 0 ∷ [])))
     -- n 1; P 64 and 65; 8 and 9 meetings
@@ -118,8 +118,8 @@ other-slips
     × (deviationsUnder (under 31 1 0 0 0 15 0 7) sheetA 4 ≡ 0 ∷ 0 ∷ 0 ∷ 1 ∷ [])
     × (deviationsUnder (under 31 2 0 0 0 15 0 7) sheetA 4 ≡ 0 ∷ 0 ∷ 1 ∷ 0 ∷ [])
     -- a home-away swap is an exchange
-    × (exchangeCall (twice 3) (buffers (1 ∷ 3 ∷ []) (1 ∷ []) (1 ∷ 0 ∷ 1 ∷ [])) 0 1
-    ≡ outcome (accepted 0 (pos 0) (pos 0)) (buffers (3 ∷ 1 ∷ []) (1 ∷ []) (1 ∷ 0 ∷ 1 ∷ [])))
+    × (exchangeCall (twice 3) (buffers (1 ∷ 3 ∷ []) (2 ∷ []) (2 ∷ 0 ∷ 2 ∷ [])) 0 1
+    ≡ outcome (accepted 0 (pos 0) (pos 0)) (buffers (3 ∷ 1 ∷ []) (2 ∷ []) (2 ∷ 0 ∷ 2 ∷ [])))
     -- a game number not below G, an unplaced game, a clash; a buffer too short, a sheet with a clash
     × (exchangeA 0 6 .reply ≡ declined 9)
     × (exchangeCall A (buffers (set sheetA 2 0) ledgerA tallyA) 0 2 .reply ≡ declined 12)

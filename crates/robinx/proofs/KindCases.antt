@@ -164,8 +164,8 @@ counts
     × (deviationsUnder (under 41 1 0 0 0 3 0 1) sheetA 2 ≡ 1 ∷ 1 ∷ [])
     × (deviationsUnder (under 42 1 0 0 0 3 0 1) sheetA 1 ≡ 1 ∷ [])
     -- pairs rise by their lower team: (0, 3) is the third, (1, 2) the fourth
-    × (deviationsUnder (meetTwice 0 3) (1 ∷ 2 ∷ []) 6 ≡ 0 ∷ 0 ∷ 2 ∷ 0 ∷ 0 ∷ 0 ∷ [])
-    × (deviationsUnder (meetTwice 1 2) (1 ∷ 2 ∷ []) 6 ≡ 0 ∷ 0 ∷ 0 ∷ 2 ∷ 0 ∷ 0 ∷ [])
+    × (deviationsUnder (meetTwice 0 3) (1 ∷ 2 ∷ []) 6 ≡ 0 ∷ 0 ∷ 3 ∷ 0 ∷ 0 ∷ 0 ∷ [])
+    × (deviationsUnder (meetTwice 1 2) (1 ∷ 2 ∷ []) 6 ≡ 0 ∷ 0 ∷ 0 ∷ 3 ∷ 0 ∷ 0 ∷ [])
     -- 8 and 9 meetings, at either venue
     × (openWith (fixtures 5 3) (1 ∷ 2 ∷ 3 ∷ 4 ∷ 5 ∷ 6 ∷ 7 ∷ 8 ∷ []) 0 2 .reply ≡ accepted 0 (pos 0) (pos 0))
     × (openWith (fixtures 5 4) (1 ∷ 2 ∷ 3 ∷ 4 ∷ 5 ∷ 6 ∷ 7 ∷ 8 ∷ 9 ∷ []) 0 2 .reply ≡ declined 4)

@@ -3,6 +3,7 @@ pub mod SeasonA
 pub mod Cases
 pub mod KindCases
 pub mod TripCases
+pub mod SeparationCases
 pub mod Sums
 pub mod Ext
 pub mod GroupSizes

@@ -4,6 +4,6 @@ use Rattle.robinx.specs.Sums.{sumTo}
 use Rattle.robinx.specs.Timetable.{X, meet}
 use Rattle.robinx.specs.Deviations.{tooClose}
 
--- how much closer than w slots the meetings of i and j are, in the first P slots
+-- how many slots fewer than w lie between the meetings of i and j, in the first P slots
 abbrev pub closeness : X → ℕ → ℕ → ℕ → ℕ → ℕ
 closeness x w P i j = sumTo (tooClose (meet x i j) w) P

@@ -1,4 +1,4 @@
-// SE1: how much closer than w slots the meetings of two teams are, for each pair of the group.
+// SE1: how many slots fewer than w lie between the meetings of two teams, for each pair of the group.
 ghost use mathlib.Core.Path.{_≡_};
 ghost use mathlib.Core.Bool.{true};
 ghost use Prim.Native.Nat.{_+_, _<_, _≤_, _^_};

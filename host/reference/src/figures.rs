@@ -202,11 +202,11 @@ fn games_gap(season: &Season, diaries: &Diaries, c: &Constraint, i: usize, j: us
     largest
 }
 
-/// SE1: by how many slots consecutive mutual games are closer than w, added up.
+/// SE1: how many slots fewer than w lie between consecutive mutual games, added up.
 fn closeness(season: &Season, diaries: &Diaries, c: &Constraint, i: usize, j: usize) -> i64 {
     let mutual = |s: &usize| diaries.of[i][*s].is_some_and(|entry| entry.opponent == j);
     let slots: Vec<usize> = (1..=season.slots).filter(mutual).collect();
-    slots.windows(2).map(|two| (c.w - (two[1] - two[0]) as i64).max(0)).sum()
+    slots.windows(2).map(|two| (c.w - (two[0] + 1..two[1]).count() as i64).max(0)).sum()
 }
 
 /// Weight times the function of the deviations.

@@ -596,24 +596,24 @@ fn list_parts(view: &View, finding: &mut Finding, parts: &[(&str, usize, &[usize
 // SE1
 
 pub fn asks_separation(view: &View, c: &Constraint) -> String {
-    format!("{}: at least {} from one game between them to the next", view.words().any_two(c.t1), count_of(c.w, "slot"))
+    format!("{}: at least {} between two games against each other", view.words().any_two(c.t1), count_of(c.w, "slot"))
 }
 
 pub fn finds_separation(view: &View, c: &Constraint, subject: Subject) -> Findings {
     let Subject::Pair(i, j) = subject else { return Vec::new() };
     let names = view.names;
     let meetings = view.slots_of(i, |_, entry| entry.opponent == j);
-    let close = meetings.windows(2).filter(|two| two[1] - two[0] < c.w);
+    let close = meetings.windows(2).filter(|two| two[1] - two[0] - 1 < c.w);
     close
         .map(|two| {
-            let apart = two[1] - two[0];
+            let between = two[1] - two[0] - 1;
             let mut finding =
-                Finding::new((c.w - apart) as i64, format!("{} and {}: games in slots ", names.team(i), names.team(j)));
+                Finding::new((c.w - between) as i64, format!("{} and {}: games in slots ", names.team(i), names.team(j)));
             finding.add_cell(names.slot_number(two[0]), i, two[0]);
             finding.add(" and ");
             finding.add_cell(names.slot_number(two[1]), i, two[1]);
             finding.cells.extend([(j, two[0]), (j, two[1])]);
-            finding.add(format!(", {} apart, at least {}", count_of(apart, "slot"), c.w));
+            finding.add(format!(", {} between, at least {}", count_of(between, "slot"), c.w));
             finding
         })
         .collect()

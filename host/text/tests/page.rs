@@ -5,9 +5,13 @@ use std::collections::{BTreeMap, HashMap, HashSet};
 use std::path::{Path, PathBuf};
 use std::process::Command;
 
-fn sample(name: &str) -> Opened {
+fn sample_text(name: &str) -> String {
     let path = Path::new(env!("CARGO_MANIFEST_DIR")).join(format!("../../examples/{name}.txt"));
-    opened(&std::fs::read_to_string(path).unwrap())
+    std::fs::read_to_string(path).unwrap()
+}
+
+fn sample(name: &str) -> Opened {
+    opened(&sample_text(name))
 }
 
 fn opened(text: &str) -> Opened {
@@ -154,6 +158,13 @@ fn what_a_small_page_shows() {
         "<article id=\"c3\" class=\"soft\">",
         "<span class=\"by\">by 1</span>team 2: 2 away games in slots 2 to 3, at most 1: slots <a href=\"#t2s2\">2</a>, <a href=\"#t2s3\">3</a></li>",
     ] {
+        assert!(html.contains(part), "{part}\n{html}");
+    }
+    // Four slots between the games of a pair are enough where four are asked for.
+    let html = page("mirrored", &opened(&sample_text("robinx-table1").replace("w=5", "w=4")));
+    for part in
+        ["<p class=\"verdict feasible\">", "Infeasibility <b>0</b> <span class=\"quiet\">0 of 1 hard constraint broken</span>"]
+    {
         assert!(html.contains(part), "{part}\n{html}");
     }
     let html = page("named8", &sample("named8"));

@@ -38,9 +38,6 @@ narrow c =
     let t = turn 64 (c .before .before .before .args .v) (l .inv .behind) (l .rest) (search needs) (l .inv .left) (c .loop-test .taken) in
     omega arith
 
-add-too-close : tie.Need-add-too-close Inv-loop μ-loop
-add-too-close c = let z = narrow c in search needs
-
 too-close-requires : tie.Need-too-close-requires Inv-loop μ-loop
 too-close-requires c κs = search needs
 
@@ -75,7 +72,6 @@ closeness-spec =
     cast-rest
     shr-rest
     loop-holds
-    add-too-close
     too-close-requires
     add-c
     cast-rest-2

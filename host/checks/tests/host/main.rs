@@ -1,5 +1,6 @@
 //! The proved library, linked as C, against an independent checker and against figures worked out by hand.
 
+mod by_hand;
 mod documents;
 mod every_call;
 mod explained;
@@ -10,6 +11,7 @@ mod named;
 mod refusals;
 mod report;
 mod samples;
+mod separation;
 mod table1;
 mod text;
 mod trips;

@@ -3,20 +3,14 @@
 use checks::{example, Check, Lent};
 use reference::{Buffers, Call, Reply};
 
+use crate::by_hand::{exchange, set};
+
 const fn accepted(number: u8, infeasibility: i64, objective: i64) -> Reply {
     Reply { declined: false, number, infeasibility, objective }
 }
 
 const fn refused(number: u8) -> Reply {
     Reply { declined: true, number, infeasibility: 0, objective: 0 }
-}
-
-const fn set(game: u64, slot: u64) -> Call {
-    Call::Set { game, slot }
-}
-
-const fn exchange(game: u64, other: u64) -> Call {
-    Call::Exchange { game, other }
 }
 
 /// Buffers of the library, with books of the given lengths.
@@ -93,13 +87,13 @@ fn each_function_of_1_0_2() {
 }
 
 #[test]
-fn mutual_games_two_slots_apart() {
+fn mutual_games_with_a_slot_between() {
     let lent = opened(
         "teams 2\nslots 3\ngame 0 1 1\ngame 1 0 3\n\
          SE1 soft sum weight=1 w=3 T1=all\nSE1 soft sum weight=1 w=2 T1=all\nSE1 hard sum weight=1 w=255 T1=all\n",
     );
-    assert_eq!(lent.ledger(), [1, 0, 253]);
-    assert_eq!(lent.tally(), [1, 0, 253, 253, 1]);
+    assert_eq!(lent.ledger(), [2, 1, 254]);
+    assert_eq!(lent.tally(), [2, 1, 254, 254, 3]);
 }
 
 #[test]

@@ -45,9 +45,9 @@ fn it_is_compact_and_a_double_round_robin() {
 
 #[test]
 fn it_is_mirrored() {
-    // Return games follow five slots after the first ones: closer than 6, not closer than 5.
-    assert_eq!(ledger_with("SE1 hard sum weight=1 w=5 T1=all\n"), [0; 15]);
-    assert_eq!(ledger_with("SE1 hard sum weight=1 w=6 T1=all\n"), [1; 15]);
+    // Return games follow five slots after the first ones: four slots lie between, not five.
+    assert_eq!(ledger_with("SE1 hard sum weight=1 w=4 T1=all\n"), [0; 15]);
+    assert_eq!(ledger_with("SE1 hard sum weight=1 w=5 T1=all\n"), [1; 15]);
 }
 
 #[test]
@@ -55,8 +55,8 @@ fn it_is_the_stored_season() {
     let (season, sheet) = example_season("robinx-table1.txt");
     let mut check = Check::new("Table 1".into(), &season, Check::buffers_for(&season, &sheet));
     let reply = check.open();
-    assert_eq!((reply.declined, reply.number), (false, 0));
-    assert_eq!(check.lent.tally(), [0, 0, 2, 0, 2]);
+    assert_eq!((reply.declined, reply.number), (false, 2));
+    assert_eq!(check.lent.tally(), [15, 0, 2, 15, 2]);
     // The paper's home stand of team 2 from slot 2 to 4 ends when its game against team 4 moves out of slot 3.
     let game = season[6..36].iter().zip(&season[36..66]).position(|game| game == (&1, &3)).unwrap();
     let reply = check.make_fresh(Call::Set { game: game as u64, slot: 0 });

@@ -1,34 +1,13 @@
 //! CA5 and BR4: trips with figures that were worked out by hand, after opening and after moves, and which moves touch them.
 
 use checks::{example_season, Check, Draft};
-use reference::{Buffers, Call};
+use reference::Buffers;
 
-/// A season in text form, opened.
-fn opened(text: &str) -> Check {
-    let encoded = season_text::encode(text).unwrap_or_else(|faults| panic!("{faults}\n{text}"));
-    let mut check = Check::new("trips".into(), &encoded.season, Check::buffers_for(&encoded.season, &encoded.sheet));
-    let reply = check.open();
-    assert!(!reply.declined, "{reply}\n{text}");
-    check
-}
+use crate::by_hand::{after, exchange, opened, set};
 
 /// The deviations of the constraints on a sheet of 4 teams and 9 slots.
 fn figures(games: &str, constraints: &str) -> Vec<u32> {
     opened(&format!("teams 4\nslots 9\n{games}{constraints}")).lent.ledger().to_vec()
-}
-
-/// Makes an accepted move; the deviations after it, which are those of a fresh opening by the library itself.
-fn after(check: &mut Check, call: Call) -> Vec<u32> {
-    let reply = check.make_fresh(call);
-    assert!(!reply.declined, "{call}: {reply}");
-    let kept = check.before.clone();
-    check.open();
-    assert!(kept == check.before, "{call}: a fresh opening gives other books");
-    kept.ledger
-}
-
-const fn set(game: u64, slot: u64) -> Call {
-    Call::Set { game, slot }
 }
 
 /// BR4 for team 0, with S and kmin.
@@ -123,8 +102,8 @@ fn two_trips_of_a_season() {
     // The second trip is in slots 4, 5 and 9.
     assert_eq!(check.lent.ledger(), [1, 0, 1 + 2, 1]);
     // Home and away swapped: slots 1 to 5 are one trip, and slot 9 is at home.
-    assert_eq!(after(&mut check, Call::Exchange { game: 2, other: 5 }), [2, 1, 4, 2]);
-    assert_eq!(after(&mut check, Call::Exchange { game: 5, other: 2 }), [1, 0, 3, 1]);
+    assert_eq!(after(&mut check, exchange(2, 5)), [2, 1, 4, 2]);
+    assert_eq!(after(&mut check, exchange(5, 2)), [1, 0, 3, 1]);
     // Without the home game there is one trip, in slots 1 to 9.
     assert_eq!(after(&mut check, set(2, 0)), [2, 1, 4, 0]);
     // With it in slot 7 there is one too, in slots 1 to 5, and the away game in slot 9 is alone.
@@ -247,7 +226,6 @@ fn what_is_touched() {
     let mut check = opened(&(text + &trips("1-3", 2) + &games("1-3", "1", 0, 0)));
     assert_eq!(check.lent.ledger(), [1, 1]);
     let right = check.before.clone();
-    let exchange = |game, other| Call::Exchange { game, other };
     let cases = [
         // a game without team 0, whether in S or not, and against T2
         (set(3, 1), None),
