@@ -12,6 +12,7 @@ pub mod SetBits
 pub mod Stops
 pub mod Trips
 pub mod TripFormula
+pub mod SeparationFormula
 pub mod Lengths
 pub mod Filled
 pub mod Agree
