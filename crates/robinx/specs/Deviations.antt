@@ -111,8 +111,9 @@ devFA2 n P c x =
     worst P (slotsOf c) (λ k.
     dist (gamesUpTo n x (side (c .mode)) (c .t1) i (suc k)) (gamesUpTo n x (side (c .mode)) (c .t1) j (suc k)) - c .kmax))
 
--- SE1: how many slots fewer than w lie between a game in slot k and the one before it; of two teams' meetings, summed over all slots. RobinX
--- prints d(i, j) = Σ s1, s2 > s1 : y(i, j, s1, s2) · max(w − (s2 − s1); 0); its words, and FORMAT 3.6, have s2 − s1 − 1 there; `formula-SE1`
+-- SE1: how many slots fewer than w lie between a game in slot k and the one before it; of two teams' meetings, summed over all slots. RobinX, where
+-- y(i, j, s1, s2) is 1 for consecutive meetings in s1 and s2, else 0, prints d(i, j) = Σ s1, s2 > s1 : y(i, j, s1, s2) · max(w − (s2 − s1); 0);
+-- its words, and FORMAT 3.6, take the slots between them, s2 − s1 − 1; `formula-SE1`
 unfoldable pub tooClose : (ℕ → Bool) → ℕ → ℕ → ℕ
 tooClose game w k = only (game k && ltb 0 (lastSlot game k)) (w - (suc k - lastSlot game k - 1))
 
