@@ -354,20 +354,47 @@ fn reports() {
     assert!(folder.good("report a.txt").contains("by 1  team 31: 1 away game in slots 60 to 64, at least 2: slot 64"));
 }
 
+/// What a report says of the one constraint of a season: what it asks for, and its deviations.
+fn explained(folder: &Folder, season: String) -> Vec<String> {
+    folder.put("a.txt", season);
+    let report = folder.good("report a.txt");
+    let lines: Vec<String> =
+        report.lines().map(str::trim).skip_while(|line| !line.starts_with("asks: ")).map(str::to_string).collect();
+    assert!(lines[1].starts_with("penalty: weight"), "{report}");
+    [&lines[..1], &lines[2..]].concat()
+}
+
+/// Ash and Elm meet in slots 1, 2, 4 and 9, so with no slot, one and four between; Birch meets nobody twice.
+#[test]
+fn reports_of_separation() {
+    let folder = Folder::new("separation");
+    let names = "team 0 \"Ash\"\nteam 1 \"Birch\"\nteam 2 \"Elm\"\nslot 4 \"1 May\"\n";
+    let games = "game 0 2 1\ngame 2 0 2\ngame 1 2 3\ngame 0 2 4\ngame 1 0 5\ngame 2 0 9\n";
+    let of = |w: u8| explained(&folder, format!("teams 3\nslots 9\n{names}{games}SE1 soft sum weight=1 w={w} T1=all\n"));
+    assert_eq!(
+        of(1),
+        [
+            "asks: any two teams: at least 1 slot between two games against each other",
+            "by 1  Ash and Elm: games in slots 1 and 2, no slot between, at least 1"
+        ]
+    );
+    assert_eq!(
+        of(4),
+        [
+            "asks: any two teams: at least 4 slots between two games against each other",
+            "by 7  Ash and Elm: games in slots 1 and 2, no slot between, at least 4",
+            "Ash and Elm: games in slots 2 and 4 (1 May), 1 slot between, at least 4"
+        ]
+    );
+}
+
 /// Ash is away in slots 1, 2 and, over a free slot, 4; at home in 5; away in 6, 7 and 8. Elm is away once.
 #[test]
 fn reports_of_trips() {
     let folder = Folder::new("trips");
     let names = "team 0 \"Ash\"\nteam 1 \"Birch\"\nteam 2 \"Cedar\"\nteam 3 \"Elm\"\nslot 4 \"1 May\"\n";
     let games = "game 1 0 1\ngame 2 0 2\ngame 3 0 4\ngame 0 3 5\ngame 1 0 6\ngame 2 0 7\ngame 3 0 8\n";
-    let of = |constraint: &str| {
-        folder.put("a.txt", format!("teams 4\nslots 8\n{names}{games}{constraint}\n"));
-        let report = folder.good("report a.txt");
-        let lines: Vec<String> =
-            report.lines().map(str::trim).skip_while(|line| !line.starts_with("asks: ")).map(str::to_string).collect();
-        assert!(lines[1].starts_with("penalty: weight"), "{report}");
-        [&lines[..1], &lines[2..]].concat()
-    };
+    let of = |constraint: &str| explained(&folder, format!("teams 4\nslots 8\n{names}{games}{constraint}\n"));
     assert_eq!(
         of("BR4 away soft sum weight=1 kmin=3 T1=0,3 S=all"),
         [
