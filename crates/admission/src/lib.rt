@@ -1,5 +1,8 @@
 // Sentences 1 to 8, which the calls share: the season's (`season::examine`), then that of the lengths, then that of the sheet, whose tables
 // are built on the way.
+
+#![tactic(auto)]
+
 ghost use Rattle.std.specs.Prelude.{◌≡◌, ◌&&◌, not, ◌+◌, ◌≤◌, eqb, length};
 ghost use Rattle.robinx.specs.Season.{decode, most_teams, most_slots, most_constraints};
 ghost use Rattle.robinx.specs.Calls.{buffers};
@@ -12,7 +15,7 @@ use robinx::{Season, Slots};
 use timetable::Built;
 
 // The number of the first true sentence, or 0 and then the sizes and the number of unplaced games.
-#[derive(Drop)]
+#[derive(Clone, Copy)]
 pub struct Admission {
     pub fault: u8,
     pub sizes: Season,

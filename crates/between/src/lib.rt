@@ -1,4 +1,7 @@
 // CA4 and GA1: games between two groups. Each game is counted at its home team, so that none is counted twice.
+
+#![tactic(auto)]
+
 ghost use Rattle.std.specs.Prelude.{◌≡◌, ◌&&◌, ◌+◌, ◌<◌, ◌≤◌, ◌^◌, length, get_or};
 ghost use Rattle.robinx.specs.Season.{most_teams, most_slots};
 ghost use Rattle.robinx.specs.Sums.{sum_to, only};

@@ -1,4 +1,7 @@
 // The ledger and the tally: a walk works out the touched constraints, all of them when the books are opened, and the totals follow.
+
+#![tactic(auto)]
+
 ghost use Rattle.std.specs.Prelude.{◌≡◌, ◌+◌, ◌-◌, ◌%◌, ◌^◌, length, get_or};
 ghost use Rattle.robinx.specs.Season.{decode};
 ghost use Rattle.robinx.specs.Calls.{moved_total};

@@ -1,4 +1,7 @@
 // BR1 and BR2: the breaks of each team, and of all teams of the group together.
+
+#![tactic(auto)]
+
 ghost use Rattle.std.specs.Prelude.{◌≡◌, true, ◌*◌, ◌≤◌, ◌<◌};
 ghost use Rattle.robinx.specs.Season.{most_teams, most_slots};
 ghost use Rattle.robinx.specs.Sums.{sum_to, only};

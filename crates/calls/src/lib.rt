@@ -1,4 +1,7 @@
 // What stands around the tables in set and exchange: the sentences about their numbers, and the move of a game.
+
+#![tactic(auto)]
+
 ghost use Rattle.std.specs.Prelude.{◌≡◌, ◌<◌, ◌≤◌, length};
 ghost use Rattle.robinx.specs.Refusals.{first_true, sentence12};
 ghost use Rattle.calls.specs.CallNumbers.{set_numbers, exchange_numbers};

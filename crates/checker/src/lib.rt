@@ -1,4 +1,7 @@
 // The three calls of the console. Each meets its definition for every input; a declined call writes nothing.
+
+#![tactic(auto)]
+
 ghost use Rattle.std.specs.Prelude.{◌≡◌};
 ghost use Rattle.robinx.specs.Calls.{buffers, outcome, open_call, set_call, exchange_call};
 

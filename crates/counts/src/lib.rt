@@ -1,4 +1,7 @@
 // CA1, CA2 and CA3: a figure for each team of T1, from the mask of its games.
+
+#![tactic(auto)]
+
 ghost use Rattle.std.specs.Prelude.{◌≡◌, ◌<◌, ◌≤◌};
 ghost use Rattle.robinx.specs.Season.{most_teams, most_slots};
 ghost use Rattle.robinx.specs.Groups.{bit};

@@ -1,4 +1,7 @@
 // Exchange for a call that has passed sentences 1 to 8.
+
+#![tactic(auto)]
+
 ghost use Rattle.std.specs.Prelude.{◌≡◌, false, ◌||◌, ◌<◌, eqb, get_or};
 ghost use Rattle.robinx.specs.Season.{decode};
 ghost use Rattle.robinx.specs.Calls.{exchange, buffers, outcome};

@@ -1,4 +1,7 @@
 // FA1 and FA2: running counts of games, and how far two of them are apart. The counts are rows of one table, laid once.
+
+#![tactic(auto)]
+
 ghost use Rattle.std.specs.Prelude.{◌≡◌, true, ◌+◌, ◌*◌, ◌-◌, ◌<◌, ◌≤◌, ◌^◌, length};
 ghost use Rattle.robinx.specs.Season.{most_teams, most_slots};
 ghost use Rattle.robinx.specs.Groups.{has, size, pairs};

@@ -1,4 +1,7 @@
 // The deviations of a constraint, written into its own stretch of the ledger from the tables of masks: each kind by the crate of its class.
+
+#![tactic(auto)]
+
 ghost use Rattle.std.specs.Prelude.{◌≡◌, ◌≤◌};
 ghost use Rattle.robinx.specs.Deviations.{deviations};
 ghost use Rattle.tables.specs.Tables.{tables, x_of};

@@ -1,4 +1,7 @@
 // The games of a season: their teams, and how often two of them meet.
+
+#![tactic(auto)]
+
 ghost use Rattle.std.specs.Prelude.{◌≡◌, true, false, ◌+◌, ◌*◌, ◌<◌, ◌≤◌, length, get_or, set};
 ghost use Rattle.robinx.specs.Season.{most_teams, most_places};
 ghost use Rattle.robinx.specs.Refusals.{sentence4};

@@ -1,4 +1,7 @@
 // Groups of teams: bit t of a u32 is team t. Everything that knows how many teams a group has room for is in here.
+
+#![tactic(auto)]
+
 ghost use Rattle.std.specs.Prelude.{◌≡◌, ◌+◌, ◌-◌, ◌<◌, ◌≤◌, ◌^◌};
 ghost use Rattle.std.specs.Int.Count.{ones};
 ghost use Rattle.robinx.specs.Season.{most_teams};
@@ -49,7 +52,7 @@ pub fn pairs_of(group: u32) -> usize
 
 // A walk over the members of a group, lowest first: `team` is the member that it is at, `rest` has the members from place `at` on, moved down
 // to bit 0. A loop over them goes `while m.rest != 0 { m = m.next(); .. }`.
-#[derive(Drop)]
+#[derive(Clone, Copy)]
 pub struct Members {
     pub team: usize,
     pub at: usize,

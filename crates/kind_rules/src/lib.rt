@@ -1,5 +1,8 @@
 // Whether a constraint keeps the rules of its kind: what each kind asks, tested with its constants. The other part of the table of kinds is in
 // `kinds`, with the same lines. A kind is decided by its tens, then its unit.
+
+#![tactic(auto)]
+
 ghost use Rattle.std.specs.Prelude.{◌≡◌, ◌≤◌};
 ghost use Rattle.robinx.specs.Season.{most_teams, most_slots};
 ghost use Rattle.robinx.specs.Rules.{obeys};

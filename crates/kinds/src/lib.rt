@@ -1,5 +1,8 @@
 // The form of each kind: its deviations, and the changes that touch it. What a kind asks is in `kind_rules`, with the same lines; with the
 // fillers the two are all that knows kinds in the code. A kind is decided by its tens, then its unit.
+
+#![tactic(auto)]
+
 ghost use Rattle.std.specs.Prelude.{◌≡◌, ◌≤◌};
 ghost use Rattle.robinx.specs.Kinds.{Kind, form, form_of, form_at};
 ghost use Rattle.rules.specs.CountedBits.{ones_in};

@@ -1,4 +1,7 @@
 // Masks of slots: bit k of a u64 stands for slot k, counted from 0. Everything that knows that a mask is one word is in here.
+
+#![tactic(auto)]
+
 ghost use Rattle.std.specs.Prelude.{◌≡◌, ◌-◌, ◌/◌, ◌%◌, ◌^◌, ◌<◌, ◌≤◌, ◌==◌, bit_and, bit_or, count_ones, nat_le};
 ghost use Rattle.robinx.specs.Season.{most_slots};
 ghost use Rattle.robinx.specs.Sums.{only, sum_to};

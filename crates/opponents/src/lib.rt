@@ -1,4 +1,7 @@
 // What the fillers of all kinds share: the slots in which a team has a game of some sides against a group, as a mask; modes and counts.
+
+#![tactic(auto)]
+
 pub mod measure;
 
 ghost use Rattle.std.specs.Prelude.{◌≡◌, ◌+◌, ◌-◌, ◌*◌, ◌<◌, get_or};

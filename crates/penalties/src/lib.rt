@@ -1,4 +1,7 @@
 // The penalty of a constraint: its weight times a function of the deviations in its stretch.
+
+#![tactic(auto)]
+
 ghost use Rattle.std.specs.Prelude.{◌≡◌, ◌^◌, ◌<◌, min, max};
 ghost use Rattle.robinx.specs.Penalty.{sum, sum_of_squares, largest, smallest, combine, penalty};
 

@@ -1,4 +1,7 @@
 // What a list of calls has come to: the last reply, and the changes of all replies added up.
+
+#![tactic(auto)]
+
 ghost use Rattle.std.specs.Prelude.{◌≡◌};
 ghost use Rattle.played.specs.Word.{word};
 ghost use Rattle.played.specs.ReplyList.{begun, with_reply};
@@ -6,7 +9,7 @@ ghost use Rattle.played.specs.ReplyList.{begun, with_reply};
 use robinx::Reply;
 
 // The last reply, and the sums of the changes of all replies, modulo 2^64.
-#[derive(Drop)]
+#[derive(Clone, Copy)]
 pub struct Played {
     pub reply: Reply,
     pub infeasibility: u64,

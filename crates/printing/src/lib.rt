@@ -1,4 +1,7 @@
 // Prints a report. What is printed is outside the contracts: these functions work nothing out, and their runs are compared with stored files.
+
+#![tactic(auto)]
+
 ghost use Rattle.std.specs.Prelude.{◌*◌, ◌≤◌, length};
 
 use libc::STDOUT_FILENO;

@@ -9,7 +9,7 @@ use super::constraint_at;
 use robinx::{Constraint, Season};
 
 // The season, and the number of the constraint that is read next.
-#[derive(Drop)]
+#[derive(Clone, Copy)]
 pub struct Cursor<'a> {
     pub season: &'a [u8],
     pub at: usize,

@@ -1,4 +1,7 @@
 // Numbers, sizes, game lists and constraints out of a season's bytes, lowest byte first.
+
+#![tactic(auto)]
+
 pub mod cursor; // cursor.rt: one reader that moves over the constraints
 
 ghost use Rattle.std.specs.Prelude.{◌≡◌, ◌+◌, ◌*◌, ◌<◌, ◌≤◌, length};

@@ -1,4 +1,7 @@
 // A season opened and then a list of calls made, through the exported calls alone: the last reply, and the changes added up.
+
+#![tactic(auto)]
+
 ghost use Rattle.std.specs.Prelude.{◌≡◌};
 ghost use Rattle.robinx.specs.Calls.{buffers, outcome, call_on};
 ghost use Rattle.replay.specs.Play.{call_of, calls_of, Replays};

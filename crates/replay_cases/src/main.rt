@@ -1,13 +1,16 @@
 // Replays season A: reads its 114 bytes, its sheet (both as in examples/season-a.bin) and then calls of three words each, eight bytes a
 // word, lowest first (examples/season-a.moves; 0 for set, 1 for exchange). For the opening alone, for the first call, the first two and
 // so on it opens anew, makes these calls, and prints the last reply, each sum with the last change, the sheet and the tally.
+
+#![tactic(auto)]
+
 ghost use Rattle.std.specs.Prelude.{◌≤◌, length};
 
 use libc::{STDIN_FILENO, STDOUT_FILENO};
 use robinx::Reply;
 
 // A number that was read, or the end of the input.
-#[derive(Drop)]
+#[derive(Clone, Copy)]
 struct Read {
     found: bool,
     value: u64,

@@ -1,4 +1,7 @@
 // The replies: of a refused call, and of an accepted one with its verdict.
+
+#![tactic(auto)]
+
 ghost use Rattle.std.specs.Prelude.{◌≡◌};
 ghost use Rattle.std.specs.Int.{w64};
 ghost use Rattle.std.proofs.Common.{to_z};

@@ -1,4 +1,7 @@
 // The report of a season and its sheet (docs/FORMAT.md, section 8): its rows as words.
+
+#![tactic(auto)]
+
 ghost use Rattle.std.specs.Prelude.{◌≡◌, List, ◌∷◌, [], ◌++◌, ℕ, ◌+◌, ◌*◌, ◌≤◌, ◌<◌, length};
 ghost use Rattle.robinx.specs.Season.{most_constraints};
 ghost use Rattle.robinx.specs.Refusals.{first_true, of_season};
@@ -70,7 +73,7 @@ fn put_rows(season: &[u8], verdict: u8, tally: &[u64], out: &mut [u64]) -> usize
 }
 
 // The number of the refusal, or 0 and then the number of rows.
-#[derive(Drop)]
+#[derive(Clone, Copy)]
 pub struct Report {
     pub fault: u8,
     pub count: usize,

@@ -1,5 +1,8 @@
 // Reads a list of inputs on standard input, each one as two bytes of length, lowest first, and its bytes, and prints
 // the report of each one as `season-report` would.
+
+#![tactic(auto)]
+
 ghost use Rattle.std.specs.Prelude.{◌<◌, ◌≤◌};
 ghost use Rattle.report_reply.specs.ReportReply.{most_bytes};
 

@@ -1,4 +1,7 @@
 // The reply that a report is made of (docs/FORMAT.md, section 8): where the input is cut, sentence 6, and the opening.
+
+#![tactic(auto)]
+
 ghost use Rattle.std.specs.Prelude.{◌≡◌, ◌+◌, ◌≤◌, length, take, drop};
 ghost use Rattle.robinx.specs.Season.{most_constraints, most_deviations};
 ghost use Rattle.robinx.specs.Report.{season_of, sheet_of, report_fault};

@@ -24,6 +24,10 @@ module _ (game : ℕ → Bool) where
   abbrev pub consecutive : ℕ → ℕ → Bool
   consecutive a b = ltb a b && game b && last_before b a
 
+  no-game-behind : (k a : ℕ) → game k ≡ false → last_before (suc k) a ≡ last_before k a
+  unfolding any_to
+  no-game-behind k a e = rw (e, and-false, or-false)
+
   -- f of the last of the first k slots in which there is a game, counted from 1
   module _ (f : ℕ → ℕ) where
     abbrev OfLast : ℕ → Type 0
@@ -34,8 +38,9 @@ module _ (game : ℕ → Bool) where
     of-next k true e h =
         let none-behind-k = none_any (λ i. ltb k i && game i) k (λ i l. rw (le-ltb k i (omega arith))) in
         rw (e, none-behind-k, le-ltb k k (omega arith), lt-ltb 0 (suc k) (omega arith))
-        (sym (ap (λ (v : ℕ). v + f (suc k)) (sum-zero k (λ a l. simp (lt-ltb a k l, or-true, and-false))) ∙ zero-add (f (suc k))))
-    of-next k false e h = simp (e, and-false, or-false, add-zero) h
+        (sym (ap (λ (v : ℕ). v + f (suc k)) (sum-zero k (λ a l. simp (lt-ltb a k l, e, or-true, and-false))) ∙ zero-add (f (suc k))))
+    of-next k false e h =
+        simp (e, add-zero) (h ∙ sum-ext k (λ a l. ap (λ (b : Bool). only b (f (suc a))) (sym (no-game-behind k a e))))
 
     of-last : (k : ℕ) → OfLast k
     unfolding sum_to last_slot

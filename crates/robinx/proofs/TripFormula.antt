@@ -37,6 +37,11 @@ module _ (away home : ℕ → Bool) (g : ℕ → ℕ) (none-but-away : (k : ℕ)
   unfolding on_trip
   none-before-a k l = rw (lt-leb a k l)
 
+  -- P is no slot of it
+  ends-as-before : (P k : ℕ) → on_trip away home a P ≡ false → from_to away home (suc P) a k ≡ from_to away home P a k
+  unfolding any_to
+  ends-as-before P k e = rw (e, and-false, or-false)
+
   -- b is a slot of it
   module _ (b : ℕ) (on : on_trip away home a b ≡ true) where
     b-from-a-on : a ≤ b
@@ -108,7 +113,12 @@ module _ (away home : ℕ → Bool) (g : ℕ → ℕ) (none-but-away : (k : ℕ)
     same-with-next : (P : ℕ) (c : Bool) → on_trip away home a P ≡ c → Same P → Same (suc P)
     unfolding trip_counts along_trip over sum_to last_was any_to
     same-with-next P true e h = same-with-last P e
-    same-with-next P false e h = simp (e, and-false, or-false, only_none, add-zero) h
+    same-with-next P false e h =
+        simp (e, and-false, only_none, add-zero)
+        (h
+        ∙ ap
+        (only (has S a))
+        (sum-ext P (λ k l. ap (λ (b : Bool). only (has S k) (only b (v (in_run g (suc k - a) a)))) (sym (ends-as-before P k e)))))
 
     same : (P : ℕ) → Same P
     unfolding trip_counts over sum_to last_was

@@ -1,7 +1,9 @@
 // The records and limits that the definitions (specs/) and the code share.
 
+#![tactic(auto)]
+
 // The sizes of a season.
-#[derive(Drop)]
+#[derive(Clone, Copy)]
 pub struct Season {
     pub teams: usize,
     pub slots: usize,
@@ -28,7 +30,7 @@ impl Season {
 pub type Slots = u64;
 
 // A constraint: the eight bytes of its head, the three groups of its body.
-#[derive(Drop)]
+#[derive(Clone, Copy)]
 pub struct Constraint {
     pub kind: u8,
     pub mode: u8,
@@ -45,7 +47,7 @@ pub struct Constraint {
 
 // What a kind asks of a field, besides that it is in range: that it is 0, nothing, that it is at most kmax, that it is not 0. A group that
 // is not 0 has a member.
-#[derive(Drop)]
+#[derive(Clone, Copy)]
 pub enum Field {
     Zero,
     Any,
@@ -55,7 +57,7 @@ pub enum Field {
 
 // How many deviations a constraint has: one, or one for each team of T1 or pair of them; or one in modes 1 to 3 and one for each slot
 // of S in modes 4 to 6.
-#[derive(Drop)]
+#[derive(Clone, Copy)]
 pub enum Shape {
     Nothing,
     One,
@@ -66,7 +68,7 @@ pub enum Shape {
 
 // The games whose change touches a constraint, by their teams: one is in T1; one is in T1 and the other in T2; home is in T1 and away in
 // T2; both are in T1.
-#[derive(Drop)]
+#[derive(Clone, Copy)]
 pub enum TouchTeams {
     Nobody,
     OneInT1,
@@ -76,7 +78,7 @@ pub enum TouchTeams {
 }
 
 // .. and by the slot that they leave or get: in S; at or before the last of S; any.
-#[derive(Drop)]
+#[derive(Clone, Copy)]
 pub enum TouchSlots {
     InS,
     UpToLastOfS,
@@ -85,7 +87,7 @@ pub enum TouchSlots {
 
 // What a kind asks of its constraints: the first and the last mode, whether a penalty may square (functions 2 and 3), the fields, the fewest
 // teams of T1, and whether one of T1 and T2 has to have more than one team.
-#[derive(Drop)]
+#[derive(Clone, Copy)]
 pub struct Asks {
     pub first: u8,
     pub last: u8,
@@ -100,7 +102,7 @@ pub struct Asks {
 }
 
 // The rest that differs between kinds, but for the count itself: how many deviations there are, and which changes touch them.
-#[derive(Drop)]
+#[derive(Clone, Copy)]
 pub struct Form {
     pub shape: Shape,
     pub teams: TouchTeams,
@@ -109,7 +111,7 @@ pub struct Form {
 
 // What a call answers: a refusal's number, or a verdict with the changes of infeasibility and objective.
 #[repr(C)]
-#[derive(Drop)]
+#[derive(Clone, Copy)]
 pub struct Reply {
     pub declined: bool,
     pub number: u8,

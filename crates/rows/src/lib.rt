@@ -1,4 +1,7 @@
 // Rows of bytes, a place for each slot: marks and running counts of slot masks, and what is read off them.
+
+#![tactic(auto)]
+
 ghost use Rattle.std.specs.Prelude.{◌≡◌, ◌+◌, ◌-◌, ◌<◌, ◌≤◌, min, max};
 ghost use Rattle.robinx.specs.Season.{most_slots};
 ghost use Rattle.robinx.specs.Sums.{dist};

@@ -1,4 +1,7 @@
 // A season's bytes, read inside their ends, and the first true one of sentences 1 to 5.
+
+#![tactic(auto)]
+
 ghost use Rattle.std.specs.Prelude.{◌≡◌, false, ◌∷◌, [], ◌+◌, ◌*◌, ◌<◌, ◌^◌};
 ghost use Rattle.robinx.specs.Season.{decode};
 ghost use Rattle.robinx.specs.Refusals.{sentence, sentence3, sentence4, sentence5, of_season};
@@ -8,7 +11,7 @@ ghost use Rattle.season.specs.Examination.{Examination, refused_by, further};
 use robinx::{Constraint, Season};
 
 // The number of the first true sentence, or 0 and then the sizes and the number of deviations.
-#[derive(Drop)]
+#[derive(Clone, Copy)]
 pub struct Examined {
     pub fault: u8,
     pub sizes: Season,

@@ -1,5 +1,8 @@
 // Reads test seasons on standard input, each after its length in two bytes, and prints for each the number that `examine` gives; after
 // 0 the number of deviations. cases.md says what each of them is.
+
+#![tactic(auto)]
+
 ghost use Rattle.std.specs.Prelude.{◌+◌, ◌<◌, ◌≤◌, length};
 
 use libc::{STDIN_FILENO, STDOUT_FILENO};

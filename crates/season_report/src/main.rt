@@ -1,4 +1,7 @@
 // Reads a season and its sheet on standard input, and prints their report.
+
+#![tactic(auto)]
+
 use libc::STDIN_FILENO;
 
 fn main() {

@@ -1,4 +1,7 @@
 // SE1: how many slots fewer than w lie between the meetings of two teams, for each pair of the group.
+
+#![tactic(auto)]
+
 ghost use Rattle.std.specs.Prelude.{◌≡◌, true, ◌+◌, ◌<◌, ◌≤◌, ◌^◌};
 ghost use Rattle.robinx.specs.Season.{most_teams, most_slots};
 ghost use Rattle.robinx.specs.Groups.{has};

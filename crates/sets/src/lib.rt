@@ -1,4 +1,7 @@
 // Set for a call that has passed sentences 1 to 8.
+
+#![tactic(auto)]
+
 ghost use Rattle.std.specs.Prelude.{◌≡◌, ◌<◌, ◌≤◌};
 ghost use Rattle.robinx.specs.Season.{decode};
 ghost use Rattle.robinx.specs.Calls.{set_slot, buffers, outcome};

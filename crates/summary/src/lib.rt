@@ -1,4 +1,7 @@
 // The team summary: the patterns of all teams laid into a lent table of 64 words, compared with it, and written for single teams.
+
+#![tactic(auto)]
+
 ghost use Rattle.std.specs.Prelude.{◌≡◌, not, ◌+◌, ◌<◌, ◌≤◌, eqb, length, get_or};
 ghost use Rattle.robinx.specs.Season.{most_teams};
 ghost use Rattle.robinx.specs.Sums.{any_to};

@@ -1,5 +1,8 @@
 // The three tables: which slots a team plays at home, which away, and in which one team hosts another. A game is put into all three or into
 // none.
+
+#![tactic(auto)]
+
 ghost use Rattle.std.specs.Prelude.{◌≡◌, ◌||◌, suc, ◌<◌};
 ghost use Rattle.robinx.specs.Season.{most_teams, most_slots};
 ghost use Rattle.tables.specs.Tables.{tables, busy, taken_out_of, Tried};
@@ -7,7 +10,7 @@ ghost use Rattle.tables.specs.Tables.{tables, busy, taken_out_of, Tried};
 use robinx::{Season, Slots};
 
 // The home-away patterns of all teams: the slots in which each plays at home, and those in which it plays away. They travel by value.
-#[derive(Drop)]
+#[derive(Clone, Copy)]
 pub struct Patterns {
     pub home: [Slots; Season::TEAMS],
     pub away: [Slots; Season::TEAMS],

@@ -1,4 +1,7 @@
 // The tables of a sheet: built from it, and kept while a game gets another slot or two games exchange theirs.
+
+#![tactic(auto)]
+
 ghost use Rattle.std.specs.Prelude.{◌≡◌, true, false, ◌&&◌, ◌<◌, ◌≤◌, eqb, length, set, get_or};
 ghost use Rattle.robinx.specs.Sums.{only};
 ghost use Rattle.robinx.specs.Season.{most_teams, most_slots};
@@ -77,7 +80,7 @@ pub fn no_slot(b: u8) -> usize
 }
 
 // What is known of a sheet once its tables are built: it fits, and so many games have no slot.
-#[derive(Drop)]
+#[derive(Clone, Copy)]
 pub struct Built {
     pub fits: bool,
     pub unplaced: usize,

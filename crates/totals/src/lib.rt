@@ -1,11 +1,14 @@
 // The two running totals, modulo 2^64, their change, and a change read as a signed number.
+
+#![tactic(auto)]
+
 ghost use Rattle.std.specs.Prelude.{◌≡◌, ◌+◌, ◌-◌, ◌%◌, ◌^◌, not, ◌==◌};
 ghost use Rattle.std.specs.Int.{w64};
 ghost use Rattle.std.proofs.Common.{to_z};
 ghost use Rattle.robinx.specs.Sums.{only};
 ghost use Rattle.totals.specs.RunningTotals.{moved_by};
 // The two running totals: infeasibility and objective.
-#[derive(Drop)]
+#[derive(Clone, Copy)]
 pub struct Totals {
     pub hard: u64,
     pub soft: u64,

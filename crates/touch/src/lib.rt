@@ -1,5 +1,8 @@
 // Which constraints the change of a game's slot touches: by the row of a constraint's kind, one thing is asked of the two teams and one of
 // the slots.
+
+#![tactic(auto)]
+
 ghost use Rattle.std.specs.Prelude.{◌≡◌, true, ◌||◌, ◌<◌, ◌≤◌};
 ghost use Rattle.robinx.specs.Season.{most_teams, most_slots};
 ghost use Rattle.robinx.specs.Touch.{teams_touch, slot_touches};
@@ -9,7 +12,7 @@ use groups::is_in;
 use robinx::{Constraint, Form, Slots, TouchSlots, TouchTeams};
 
 // Game (home, away) goes from one slot of the sheet to another; 0 is none.
-#[derive(Drop)]
+#[derive(Clone, Copy)]
 pub struct Move {
     pub home: u8,
     pub away: u8,

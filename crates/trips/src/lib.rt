@@ -1,4 +1,7 @@
 // CA5 and BR4: a figure for each team of T1, from one of its trips to the next.
+
+#![tactic(auto)]
+
 ghost use Rattle.std.specs.Prelude.{◌≡◌, true, ◌&&◌, ◌<◌, ◌≤◌, leb};
 ghost use Rattle.robinx.specs.Season.{most_slots};
 ghost use Rattle.robinx.specs.Groups.{bit, has, size};

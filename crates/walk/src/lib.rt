@@ -1,4 +1,7 @@
 // The walk over a season's constraints. It lends out the stretch of each touched one, and writes nothing for the others.
+
+#![tactic(auto)]
+
 ghost use Rattle.std.specs.Prelude.{◌≡◌, true, false, ◌+◌, ◌<◌, length, get_or, set};
 ghost use Rattle.robinx.specs.Season.{decode};
 ghost use Rattle.robinx.specs.Deviations.{deviations};
@@ -16,7 +19,7 @@ use totals::{Totals, added};
 use touch::{Move, either_touches, no_move, passed_over, teams_of};
 
 // What a call changes: everything, or what its moves touch. `teams` are the teams of the moves.
-#[derive(Drop)]
+#[derive(Clone, Copy)]
 pub struct Touch {
     pub all: bool,
     pub teams: u32,
@@ -25,7 +28,7 @@ pub struct Touch {
 }
 
 // What the reworked constraints pay now, and what they paid.
-#[derive(Drop)]
+#[derive(Clone, Copy)]
 pub struct Moved {
     pub gained: Totals,
     pub lost: Totals,
