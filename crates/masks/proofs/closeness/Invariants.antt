@@ -1,0 +1,14 @@
+-- `masks::closeness` meets its contract. Before each turn the sum is that of the slots up to the last game, and the rest is the mask
+use Rattle.std.proofs.Common.{◌<◌, div-one, arith, rules}
+use lib.Pow.{shr_le}
+use lib.Count.{count_trailing_zeros}
+use Rattle.robinx.specs.Sums.{sum_to}
+use Rattle.robinx.proofs.SetBits.{turn, first-turn}
+use Rattle.masks.proofs.GapWalk.{walked, Summed, summed-first, summed-next, summed-all}
+use Rattle.masks.proofs.closeness.Given as goal
+
+abbrev pub invariant-loop-rest : goal.invariant-loop-rest
+invariant-loop-rest l = Summed l.v l.w l.c l.rest
+
+abbrev pub decreases-loop-rest : goal.decreases-loop-rest
+decreases-loop-rest l = l.rest

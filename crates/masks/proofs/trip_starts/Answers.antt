@@ -1,0 +1,13 @@
+-- `masks::trip_starts` meets its contract. Assumes nothing.
+use Rattle.std.proofs.Common.{rules}
+use Rattle.masks.proofs.Carry.{within-left}
+use Rattle.masks.proofs.TripStarts.{start_has}
+use Rattle.masks.proofs.trip_starts.Goals as goal
+
+pub break_mask-requires : goal.break_mask-requires
+break_mask-requires c = rw c.union.ensures (within-left c.args.away c.args.home)
+
+pub returns : goal.returns
+returns c k l =
+    let a = c.args in
+    start_has a.away a.home c.break_mask.result k (rw (← c.union.ensures) (c.break_mask.ensures k l))
