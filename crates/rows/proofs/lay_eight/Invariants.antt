@@ -1,0 +1,14 @@
+-- `rows::lay_eight` meets its contract. Assumes nothing.
+use mathlib.Core.Path.{◌≡◌, refl}
+use Prim.Native.Nat.{◌-◌, ◌≤◌}
+use native.Mathlib.Omega.{arith}
+use Rattle.rows.specs.Rows.{laid_at, byte}
+use Rattle.rows.proofs.Rows.{laid_at-more}
+use borrow.Author.Rules.{rules}
+use Rattle.rows.proofs.lay_eight.Given as goal
+
+abbrev pub invariant-loop-j : goal.invariant-loop-j
+invariant-loop-j l = (l.j ≤ 8) × (l.rows ≡ laid_at l.a l.initial.rows (byte l.w) l.j)
+
+abbrev pub decreases-loop-j : goal.decreases-loop-j
+decreases-loop-j l = 8 - l.j

@@ -1,0 +1,15 @@
+-- `rows::spread` meets its contract. Assumes nothing.
+use mathlib.Core.Path.{◌≡◌, refl, ap}
+use Prim.Native.Nat.{ℕ, ◌-◌, ◌*◌, ◌≤◌}
+use native.Mathlib.Omega.{arith}
+use Rattle.robinx.specs.Season.{most_slots}
+use Rattle.rows.specs.Rows.{marked, laid}
+use Rattle.rows.proofs.Rows.{laid_more}
+use borrow.Author.Rules.{rules}
+use Rattle.rows.proofs.spread.Given as goal
+
+abbrev pub invariant-loop-k : goal.invariant-loop-k
+invariant-loop-k l = (l.k ≤ most_slots) × (l.row ≡ laid l.initial.row (marked l.s) l.k)
+
+abbrev pub decreases-loop-k : goal.decreases-loop-k
+decreases-loop-k l = most_slots - l.k
