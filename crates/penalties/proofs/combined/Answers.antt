@@ -21,23 +21,23 @@ sum_of_squares-requires c = lt_of_le_of_lt (combine-le 3 c.args.l.now) (square-f
 
 pub returns-in-1 : goal.returns-in-1
 unfolding combine
-returns-in-1 c = rw c.in_default.keys1 c.sum.ensures
+returns-in-1 c = rw c.in-1.is c.sum.ensures
 
 pub returns-in-2 : goal.returns-in-2
 unfolding combine
-returns-in-2 c = rw (c.in_default.keys2, c.sum-s.ensures)
+returns-in-2 c = rw (c.in-2.is, c.sum-s.ensures)
 
 pub returns-in-3 : goal.returns-in-3
 unfolding combine
-returns-in-3 c = rw c.in_default.keys3 c.sum_of_squares.ensures
+returns-in-3 c = rw c.in-3.is c.sum_of_squares.ensures
 
 pub returns-in-4 : goal.returns-in-4
 unfolding combine
-returns-in-4 c = rw c.in_default.keys4 c.smallest.ensures
+returns-in-4 c = rw c.in-4.is c.smallest.ensures
 
 pub returns-in_default : goal.returns-in_default
 unfolding combine
 returns-in_default c =
     let f = c.args.function in
-    let r = c.in_default.rest in
+    let r = c.in_default.in_default-own.rest in
     rw (ne_eqb f 1 r.0.0.0.1, ne_eqb f 2 r.0.0.1, ne_eqb f 3 r.0.1, ne_eqb f 4 r.1) c.largest.ensures
