@@ -7,6 +7,7 @@ ghost use Rattle.std.specs.Int.{w64};
 ghost use Rattle.std.proofs.Common.{to_z};
 ghost use Rattle.robinx.specs.Sums.{only};
 ghost use Rattle.totals.specs.RunningTotals.{moved_by};
+
 // The two running totals: infeasibility and objective.
 #[derive(Clone, Copy)]
 pub struct Totals {

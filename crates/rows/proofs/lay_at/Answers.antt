@@ -48,10 +48,10 @@ loop-k-preserved c =
     let w = m.eight.result + l.q * 0x0101010101010101 in (
       search rules,
       search rules,
-      counts-last a.v l.k (room m.before.before.before) (word m),
+      counts-last a.v l.k (room m.before.before.before) (word m.before.before.before),
       c.past_eight-rest.ensures ∙ ap (λ (r : ℕ). r / 2 ^ 8) l.invariant.3 ∙ shr-shr a.v l.k 8,
       c.lay_eight.ensures ∙ ap (λ (r : List ℕ). laid_at r (a.a + l.k) (byte w) 8) l.invariant.4
-          ∙ laid_at-on a.rows.now a.a l.k (up_to a.v) (byte w) 8 (counts-byte a.v l.k (room m.before.before.before) (word m)),
+          ∙ laid_at-on a.rows.now a.a l.k (up_to a.v) (byte w) 8 (counts-byte a.v l.k (room m.before.before.before) (word m.before.before.before)),
     )
 
 pub returns : goal.returns

@@ -16,7 +16,7 @@ use Rattle.rows.proofs.lay_at.Given as goal
 
 abbrev pub invariant-loop-k : goal.invariant-loop-k
 invariant-loop-k l =
-    (l.k ≤ most_slots) × (l.k % 8 ≡ 0) × (l.q ≡ sum_to (bit l.v) l.k) × (l.rest ≡ l.v / 2 ^ l.k) × (l.rows ≡ laid_at l.a l.initial.rows (up_to l.v) l.k)
+    (l.k ≤ most_slots) × (l.k % 8 ≡ 0) × (l.q ≡ sum_to (bit l.v) l.k) × (l.rest ≡ l.v / 2 ^ l.k) × (l.rows ≡ laid_at l.initial.rows l.a (up_to l.v) l.k)
 
 abbrev pub decreases-loop-k : goal.decreases-loop-k
 decreases-loop-k l = most_slots - l.k

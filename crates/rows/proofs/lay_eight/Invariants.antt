@@ -8,7 +8,7 @@ use borrow.Author.Rules.{rules}
 use Rattle.rows.proofs.lay_eight.Given as goal
 
 abbrev pub invariant-loop-j : goal.invariant-loop-j
-invariant-loop-j l = (l.j ≤ 8) × (l.rows ≡ laid_at l.a l.initial.rows (byte l.w) l.j)
+invariant-loop-j l = (l.j ≤ 8) × (l.rows ≡ laid_at l.initial.rows l.a (byte l.w) l.j)
 
 abbrev pub decreases-loop-j : goal.decreases-loop-j
 decreases-loop-j l = 8 - l.j
