@@ -1,4 +1,2 @@
 pub mod Numbers
 pub mod Read
-pub mod WalkSteps
-pub mod CursorCalls

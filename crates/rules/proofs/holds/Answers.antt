@@ -1,0 +1,6 @@
+-- What the row asks, and the largest value.
+use borrow.Author.Rules.{rules}
+use Rattle.rules.proofs.holds.Goals as goal
+
+pub returns : goal.returns
+returns c = rw c.asks.ensures

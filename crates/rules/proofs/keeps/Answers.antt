@@ -1,0 +1,14 @@
+-- Whole from its four parts.
+use Rattle.rules.proofs.Members.{keeps-counted}
+use borrow.Author.Rules.{rules}
+use Rattle.rules.proofs.keeps.Goals as goal
+
+pub returns : goal.returns
+returns c =
+    rw (
+      c.head_keeps.ensures,
+      c.counts_keep.ensures,
+      c.groups_keep.ensures,
+      c.sizes_keep.ensures,
+      keeps-counted _ _ _ c.args.c,
+    )

@@ -1,0 +1,6 @@
+-- A game is taken out of all three tables. Assumes nothing.
+use borrow.Author.Rules.{rules}
+use Rattle.tables.proofs.lift.Goals as goal
+
+pub returns : goal.returns
+returns c = rw (c.without.ensures, c.without-2.ensures, c.without-3.ensures)

@@ -1,0 +1,25 @@
+-- The slot, if it is one, by what the row asks of it.
+use mathlib.Core.Path.{sym}
+use Rattle.robinx.specs.Touch.{slot_touches}
+use Rattle.touch.proofs.Asked.{at_none, at_some}
+use borrow.Author.Rules.{rules}
+use Rattle.touch.proofs.slot_touches.Reads as reads
+use Rattle.touch.proofs.slot_touches.Lts as lts
+use Rattle.masks.proofs.is_in.Reads as is-in-reads
+use Rattle.masks.proofs.last_reach.Reads as last-reach-reads
+use Rattle.touch.proofs.slot_touches.Goals as goal
+
+pub returns-then-b-eq0 : goal.returns-then-b-eq0
+returns-then-b-eq0 c = sym (at_none _ _ c.if-b-eq0.true)
+
+pub returns-in-InS : goal.returns-in-InS
+unfolding slot_touches
+returns-in-InS c = rw (at_some _ _ c.if-b-eq0.false, c.enum_told-1.given.1) c.is_in.ensures
+
+pub returns-in-UpToLastOfS : goal.returns-in-UpToLastOfS
+unfolding slot_touches
+returns-in-UpToLastOfS c = rw (at_some _ _ c.if-b-eq0.false, c.enum_told-in-UpToLastOfS-1.given.1) c.last_reach.ensures
+
+pub returns-in-AnySlot : goal.returns-in-AnySlot
+unfolding slot_touches
+returns-in-AnySlot c = rw (at_some _ _ c.if-b-eq0.false, c.enum_told-in-AnySlot-1.given.1)
