@@ -3,10 +3,10 @@ use borrow.Author.Rules.{rules}
 use Rattle.rules.proofs.slots_ask.Goals as goal
 
 pub returns-in-Zero : goal.returns-in-Zero
-returns-in-Zero c = rw (c.enum_told-1.given.1, c.is_none.ensures)
+returns-in-Zero c = rw (c.in-Zero.is, c.is_none.ensures)
 
 pub returns-in-UpToKmax : goal.returns-in-UpToKmax
-returns-in-UpToKmax c = rw (c.enum_told-in-UpToKmax-1.given.1, c.up_to_lem.ensures)
+returns-in-UpToKmax c = rw (c.in-UpToKmax.is, c.up_to.ensures)
 
 pub returns-in-Some : goal.returns-in-Some
-returns-in-Some c = rw (c.enum_told-in-Some-1.given.1, c.is_some.ensures)
+returns-in-Some c = rw (c.in-Some.is, c.is_some.ensures)

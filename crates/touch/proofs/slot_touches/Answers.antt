@@ -14,12 +14,12 @@ returns-then-b-eq0 c = sym (at_none _ _ c.if-b-eq0.true)
 
 pub returns-in-InS : goal.returns-in-InS
 unfolding slot_touches
-returns-in-InS c = rw (at_some _ _ c.if-b-eq0.false, c.enum_told-1.given.1) c.is_in.ensures
+returns-in-InS c = rw (at_some _ _ c.if-b-eq0.false, c.in-InS.is) c.is_in.ensures
 
 pub returns-in-UpToLastOfS : goal.returns-in-UpToLastOfS
 unfolding slot_touches
-returns-in-UpToLastOfS c = rw (at_some _ _ c.if-b-eq0.false, c.enum_told-in-UpToLastOfS-1.given.1) c.last_reach.ensures
+returns-in-UpToLastOfS c = rw (at_some _ _ c.if-b-eq0.false, c.in-UpToLastOfS.is) c.last_reach.ensures
 
 pub returns-in-AnySlot : goal.returns-in-AnySlot
 unfolding slot_touches
-returns-in-AnySlot c = rw (at_some _ _ c.if-b-eq0.false, c.enum_told-in-AnySlot-1.given.1)
+returns-in-AnySlot c = rw (at_some _ _ c.if-b-eq0.false, c.in-AnySlot.is)
