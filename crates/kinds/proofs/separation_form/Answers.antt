@@ -1,0 +1,14 @@
+-- The forms of separation constraints.
+use native.Mathlib.Omega.{arith}
+use mathlib.Core.Path.{◌∙◌}
+use Rattle.robinx.specs.Kinds.{kind_of, form_of, form_at}
+use Rattle.kinds.proofs.ByNumber.{form-at, form-of-none}
+use borrow.Author.Rules.{rules}
+use Rattle.kinds.proofs.separation_form.Goals as goal
+
+pub returns-in-51 : goal.returns-in-51
+unfolding form_of form_at kind_of
+returns-in-51 c = form-at 51 c.in-51.is c.form.ensures
+
+pub returns-in_default : goal.returns-in_default
+returns-in_default c = c.no_form.ensures ∙ form-of-none c.args.kind (omega arith)
