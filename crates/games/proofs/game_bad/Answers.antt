@@ -28,13 +28,13 @@ pair-k-requires c =
 pub returns-then-wide-ge-MEETINGS : goal.returns-then-wide-ge-MEETINGS
 unfolding refused
 returns-then-wide-ge-MEETINGS c = (
-  rw (c.if-n-i.false, ← meetings c.before) (sym (le-leb _ _ c.if-wide-ge-MEETINGS.true)),
+  rw (c.if-n-i.false, ← meetings (goal.at.returns-then-wide-ge-MEETINGS c).After-wide) (sym (le-leb _ _ c.if-wide-ge-MEETINGS.true)),
   λ e. absurd (true≢false e),
 )
 
 pub returns : goal.returns
 unfolding refused
 returns c = (
-  rw (c.if-n-i.false, ← meetings c.before) (sym (lt-leb _ _ c.if-wide-ge-MEETINGS.false)),
+  rw (c.if-n-i.false, ← meetings (goal.at.returns c).After-wide) (sym (lt-leb _ _ c.if-wide-ge-MEETINGS.false)),
   λ _. rw c.pair-k.ensures.0,
 )
