@@ -9,18 +9,22 @@ use Rattle.robinx.specs.Kinds.{kind_of, form_of}
 use Rattle.robinx.specs.Timetable.{first_modes}
 use Rattle.robinx.specs.Deviations.{outside, dev_ca4}
 use Rattle.robinx.proofs.Ext.{each-ext}
-use Rattle.tables.specs.Tables.{x_of}
+use Rattle.tables.specs.Tables.{Tables, x_of}
+use Rattle.opponents.specs.Fillable.{Fillable}
+use Rattle.robinx.specs.declared.Constraint.{Constraint}
+use mathlib.Core.List.{List}
+use Prim.Native.Nat.{ℕ}
 use Rattle.opponents.proofs.Fillable.{limits, given-t1, places_of}
 use Rattle.between.proofs.Between.{one-figure, columns-between}
 use borrow.Author.Rules.{rules}
 use Rattle.between.proofs.fill_ca4.Goals as goal
-use Rattle.between.proofs.fill_ca4.Goals.{After-outside, Start}
+use Rattle.between.proofs.fill_ca4.Goals.{After-outside}
 
 -- one place, or one for each slot of S
-places : (c : Start) {b : Bool} → b ≡ first_modes c.args.c.mode
-    → length c.args.out.now ≡ cond b 1 (size c.args.p (slots_of c.args.c))
+places : {n p : ℕ} {c : Constraint} {ts : Tables} {out : List ℕ} {b : Bool} → Fillable n p c ts out → c.kind ≡ 14 → b ≡ first_modes c.mode
+    → length out ≡ cond b 1 (size p (slots_of c))
 unfolding kind_of form_of
-places c e = rw e (places_of c.requires.0 (ap kind_of c.requires.1))
+places f k e = rw e (places_of f (ap kind_of k))
 
 pub mode_sides-sides-requires : goal.mode_sides-sides-requires
 mode_sides-sides-requires c = (limits c.requires.0).mode-least
@@ -29,7 +33,7 @@ pub games_in-requires : goal.games_in-requires
 games_in-requires c = let r = c.requires.0 in (given-t1 r, (limits r).t2)
 
 one_place : (c : After-outside) → length c.args.out.now ≡ 1
-one_place c = places c (sym c.if-first_modes.true ∙ c.first_modes.ensures)
+one_place c = places c.requires.0 c.requires.1 (sym c.if-first_modes.true ∙ c.first_modes.ensures)
 
 pub bounds-out-0 : goal.bounds-out-0
 bounds-out-0 c = omega (arith, one_place (goal.at.bounds-out-0 c).After-outside)
@@ -46,7 +50,7 @@ lay_hosted-requires c = let r = c.requires.0 in (refl, given-t1 r, (limits r).t2
 
 pub fill_columns-requires : goal.fill_columns-requires
 fill_columns-requires c =
-    (c.requires.0.teams, c.requires.0.slots, places c (sym c.if-first_modes.false ∙ c.first_modes.ensures))
+    (c.requires.0.teams, c.requires.0.slots, places c.requires.0 c.requires.1 (sym c.if-first_modes.false ∙ c.first_modes.ensures))
 
 pub returns : goal.returns
 unfolding dev_ca4

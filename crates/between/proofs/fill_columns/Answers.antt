@@ -1,7 +1,6 @@
 -- `between::fill_columns` meets its contract. Assumes nothing.
 use mathlib.Core.Path.{◌≡◌, sym, ap, ◌∙◌}
 use mathlib.Core.List.{List}
-use mathlib.Core.Logic.{⊎_elim}
 use Prim.Native.Nat.{ℕ, ◌-◌, ◌<◌, ◌≤◌}
 use native.Mathlib.Omega.{arith}
 use lib.ListN.{length, get_or}
@@ -11,10 +10,7 @@ use Rattle.robinx.specs.Deviations.{outside}
 use Rattle.robinx.proofs.Filled.{FilledEach, each_none, each-room, each-taken, each-skipped, each-done}
 use borrow.Author.Rules.{rules}
 use Rattle.between.proofs.fill_columns.Goals as goal
-use Rattle.between.proofs.fill_columns.Goals.{After-outside}
-
-abbrev figure : ℕ → ℕ → ℕ → List ℕ → ℕ → ℕ
-figure kmin kmax n words k = outside kmin kmax (sum_to (λ i. bit (get_or words i 0) k) n)
+use Rattle.between.proofs.fill_columns.Goals.{After-outside, then-is_in, else-is_in}
 
 pub loop-k-init : goal.loop-k-init
 loop-k-init c = (search rules, each_none c.requires.2)
@@ -37,15 +33,14 @@ overflow_add-at c = let r = room (goal.at.overflow_add-at c).After-outside in se
 pub loop-k-preserved : goal.loop-k-preserved
 loop-k-preserved c =
     let l = c.loop-k in
-    let a = c.args in
     let e = c.is_in.ensures in (
       search rules,
-      ⊎_elim
-          (λ w. rw (w.3, w.4)
-          (each-taken l.invariant.1 c.loop-k-test.true (sym e ∙ w.0.taken)
-          (w.2.ensures ∙ ap (outside a.kmin a.kmax) w.1.ensures)))
-          (λ w. rw (w.1, w.2) (each-skipped l.invariant.1 (sym e ∙ w.0.left)))
-          c.if-is_in.branch,
+      elim c.if-is_in.branch [
+        | then-is_in w ↦ rw (w.at-is, w.out-is)
+            (each-taken l.invariant.1 c.loop-k-test.true (sym e ∙ w.if-is_in.true)
+            (w.outside.ensures ∙ ap (outside c.args.kmin c.args.kmax) w.column.ensures))
+        | else-is_in w ↦ rw (w.at-is, w.out-is) (each-skipped l.invariant.1 (sym e ∙ w.if-is_in.false))
+      ],
     )
 
 pub shape_of-out : goal.shape_of-out

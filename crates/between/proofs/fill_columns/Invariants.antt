@@ -13,7 +13,7 @@ use borrow.Author.Rules.{rules}
 use Rattle.between.proofs.fill_columns.Given as goal
 
 abbrev pub invariant-loop-k : goal.invariant-loop-k
-invariant-loop-k l = (l.k ≤ l.p) × FilledEach l.p l.s (figure l.kmin l.kmax l.n l.words) l.k l.at l.out
+invariant-loop-k l = (l.k ≤ l.p) × FilledEach l.p l.s (λ k. outside l.kmin l.kmax (sum_to (λ i. bit (get_or l.words i 0) k) l.n)) l.k l.at l.out
 
 abbrev pub decreases-loop-k : goal.decreases-loop-k
 decreases-loop-k l = l.p - l.k

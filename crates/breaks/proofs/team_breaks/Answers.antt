@@ -7,11 +7,11 @@ use Rattle.breaks.proofs.TeamBreaks.{team-breaks}
 use Rattle.breaks.proofs.team_breaks.Goals as goal
 use Rattle.breaks.proofs.team_breaks.Goals.{Start}
 
-rules : (c : Start) → Obeys c.args.n c.args.p c.args.c
-rules c = obeyed c.args.n c.args.p c.args.c c.requires.3
+obeyed-rules : (c : Start) → Obeys c.args.n c.args.p c.args.c
+obeyed-rules c = obeyed c.args.n c.args.p c.args.c c.requires.3
 
 pub mode_sides-sides-requires : goal.mode_sides-sides-requires
-mode_sides-sides-requires c = (rules (goal.at.mode_sides-sides-requires c).Start).mode-least
+mode_sides-sides-requires c = (obeyed-rules (goal.at.mode_sides-sides-requires c).Start).mode-least
 
 pub breaks_if-requires : goal.breaks_if-requires
 breaks_if-requires c =
@@ -34,6 +34,6 @@ returns c =
         c.union-all.ensures,
         c.mode_sides-sides.ensures,
       )
-          (team-breaks c.requires.4 a.t c.requires.2 a.p a.c c.requires.1 (rules (goal.at.returns c).Start).s),
+          (team-breaks c.requires.4 a.t c.requires.2 a.p a.c c.requires.1 (obeyed-rules (goal.at.returns c).Start).s),
       search rules,
     )
