@@ -30,18 +30,23 @@ fewer c g =
     rw c.without-rest.ensures
     (over-one-fewer most_slots c.loop-c.rest a.result g a.ensures.within a.ensures.found)
 
+-- with it the sum and what is left make the whole
+whole : (c : After-run_figure-v)
+    → (c.loop-c.v + c.run_figure-v.result) + over most_slots c.without-rest.result (of_run c.args.c c.args.away c.args.home c.args.wanted)
+    ≡ of_masks c.args.c c.args.away c.args.home c.args.wanted
+whole c =
+    omega (arith, c.loop-c.invariant, fewer c (of_run c.args.c c.args.away c.args.home c.args.wanted), c.run_figure-v.ensures)
+
 pub loop-c-preserved : goal.loop-c-preserved
-loop-c-preserved c =
-    let a = c.args in
-    omega (arith, c.loop-c.invariant, fewer c (of_run a.c a.away a.home a.wanted), c.run_figure-v.ensures)
+loop-c-preserved c = whole (goal.at.loop-c-preserved c).After-run_figure-v
 
 pub overflow_add-v : goal.overflow_add-v
 overflow_add-v c =
     let a = c.args in
-    omega (arith, loop-again c, runs-small a.c a.away a.home a.wanted (search rules))
+    omega (arith, whole (goal.at.overflow_add-v c).After-run_figure-v, runs-small a.c a.away a.home a.wanted (search rules))
 
 pub loop-c-smaller : goal.loop-c-smaller
-loop-c-smaller c = omega (arith, fewer c (λ k. 1))
+loop-c-smaller c = omega (arith, fewer (goal.at.loop-c-smaller c).After-run_figure-v (λ k. 1))
 
 pub returns : goal.returns
 returns c =
