@@ -1,0 +1,14 @@
+-- `fairness::fill_row` meets its contract. Before each turn the pairs with the members passed are in. Assumes nothing.
+use mathlib.Core.Path.{sym, ◌∙◌}
+use Prim.Native.Nat.{◌-◌, ◌<◌}
+use lib.ListN.{length}
+use Rattle.fairness.specs.RunningCounts.{rows_apart}
+use Rattle.groups.proofs.MemberWalk.{RowPassed, row-start, row-place, row-turn, row-end}
+use borrow.Author.Rules.{rules}
+use Rattle.fairness.proofs.fill_row.Given as goal
+
+abbrev pub invariant-loop-m : goal.invariant-loop-m
+invariant-loop-m l = RowPassed l.n l.group (rows_apart l.rows l.e l.kmax) l.i l.m l.next l.out
+
+abbrev pub decreases-loop-m : goal.decreases-loop-m
+decreases-loop-m l = l.n - l.m.at

@@ -1,0 +1,42 @@
+-- `separation::fill_row` meets its contract. Before each turn the pairs with the members passed are in. Assumes nothing.
+use mathlib.Core.Path.{sym, ◌∙◌}
+use Prim.Native.Nat.{◌-◌, ◌<◌}
+use lib.ListN.{length}
+use Rattle.tables.specs.Tables.{x_of}
+use Rattle.separation.specs.Closeness.{closeness}
+use Rattle.groups.proofs.MemberWalk.{RowPassed, row-start, row-place, row-turn, row-end}
+use borrow.Author.Rules.{rules}
+use Rattle.separation.proofs.fill_row.Goals as goal
+use Rattle.separation.proofs.fill_row.Goals.{After-pair_closeness}
+
+pub loop-m-init : goal.loop-m-init
+loop-m-init c =
+    row-start c.above-m.ensures c.requires.0 c.requires.2 c.requires.3 c.requires.4 c.requires.5
+
+pub pair_closeness-requires : goal.pair_closeness-requires
+pair_closeness-requires c = let x = c.next-m.ensures _ _ c.loop-m.invariant.ahead in search rules
+
+-- there is a place for the figure
+room : (c : After-pair_closeness) → let l = c.loop-m in l.next < length l.out
+room c = row-place c.loop-m.invariant c.next-m.ensures
+
+pub offset_bounds-out-next : goal.offset_bounds-out-next
+offset_bounds-out-next c = let r = room (goal.at.offset_bounds-out-next c).After-pair_closeness in search rules
+
+pub bounds-out-next : goal.bounds-out-next
+bounds-out-next c = room (goal.at.bounds-out-next c).After-pair_closeness
+
+pub overflow_add-next : goal.overflow_add-next
+overflow_add-next c = let r = room (goal.at.overflow_add-next c).After-pair_closeness in search rules
+
+pub loop-m-smaller : goal.loop-m-smaller
+loop-m-smaller c = let x = c.next-m.ensures _ _ c.loop-m.invariant.ahead in search rules
+
+pub loop-m-preserved : goal.loop-m-preserved
+loop-m-preserved c = row-turn c.loop-m.invariant c.next-m.ensures c.pair_closeness.ensures
+
+pub shape_of-out : goal.shape_of-out
+shape_of-out c = c.loop-m.invariant.filled.filled.long ∙ sym c.requires.5.filled.long
+
+pub returns : goal.returns
+returns c = row-end c.loop-m.invariant (search rules)

@@ -1,0 +1,10 @@
+-- `separation::pair_closeness` meets its contract. Assumes nothing.
+use borrow.Author.Rules.{rules}
+use Rattle.separation.proofs.PairMeetings.{pair-close}
+use Rattle.separation.proofs.pair_closeness.Goals as goal
+
+pub returns : goal.returns
+returns c =
+    let a = c.args in
+    rw (c.closeness.ensures, c.front.ensures, c.union.ensures)
+    (pair-close a.meets.now a.w a.p a.i a.j c.requires.0)

@@ -1,0 +1,11 @@
+-- `trips::off_trips` meets its contract. Assumes nothing.
+use mathlib.Core.Path.{refl}
+use borrow.Author.Rules.{rules}
+use borrow.Author.Tests.{ne_eqb}
+use Rattle.trips.proofs.off_trips.Goals as goal
+
+pub returns-in-34 : goal.returns-in-34
+returns-in-34 c = rw c.in-34.is c.less.ensures
+
+pub returns-in_default : goal.returns-in_default
+returns-in_default c = rw (ne_eqb c.args.c.kind 34 (search rules)) refl
