@@ -1,0 +1,10 @@
+-- A filled stretch is small, so its penalty fits.
+use Rattle.walk.proofs.WalkTurns.{small}
+use borrow.Author.Rules.{rules}
+use Rattle.walk.proofs.price.Goals as goal
+
+pub penalty-requires : goal.penalty-requires
+penalty-requires c = rw c.fill.ensures (small c.requires)
+
+pub returns : goal.returns
+returns c = (c.fill.ensures, rw (← c.fill.ensures) c.penalty.ensures)

@@ -1,0 +1,17 @@
+-- Every turn lends out the stretch of a touched constraint, or writes nothing.
+use mathlib.Core.Path.{refl, sym, ◌∙◌}
+use mathlib.Core.Logic.{⊎_elim}
+use Prim.Native.Nat.{◌-◌, ◌≤◌}
+use native.Mathlib.Omega.{arith}
+use borrow.Author.Rules.{rules}
+use Rattle.tables.specs.Tables.{tables}
+use Rattle.walk.proofs.WalkTurns.{Walk, WalkTurn, turn, all, ranges}
+use Rattle.walk.proofs.Walked.{walked_none, walked-done}
+use Rattle.walk.proofs.walk.Given as goal
+
+abbrev pub invariant-loop-k : goal.invariant-loop-k
+invariant-loop-k l =
+    (l.k ≤ l.z.constraints) × Walk l.season l.touch l.meets l.initial.ledger l.initial.tally l.k l.at l.ledger l.tally l.sums
+
+abbrev pub decreases-loop-k : goal.decreases-loop-k
+decreases-loop-k l = l.z.constraints - l.k
