@@ -1,0 +1,8 @@
+-- One half after the other. Assumes nothing.
+use borrow.Author.Rules.{rules}
+use Rattle.summary.proofs.Words.{two-halves-are-the-words}
+use Rattle.summary.proofs.lay.Goals as goal
+
+pub returns : goal.returns
+returns c =
+    rw (c.lay_half-2.ensures, c.lay_half.ensures) (two-halves-are-the-words _ _ c.requires)
