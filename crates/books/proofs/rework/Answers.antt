@@ -13,7 +13,7 @@ settle-change-requires c =
 pub bounds-tally-at : goal.bounds-tally-at
 bounds-tally-at c =
     let g = c.requires.0 in
-    omega (arith, all g, g.tally-length, c.tally-2-1.given)
+    omega (arith, all g, g.tally-length)
 
 pub returns : goal.returns
 returns c =
