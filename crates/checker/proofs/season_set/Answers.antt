@@ -1,0 +1,20 @@
+-- Sentences 1 to 8, then the call. Assumes nothing.
+use borrow.Author.Rules.{rules}
+use Rattle.robinx.specs.Calls.{Call}
+use Rattle.checker.proofs.Exported.{call-refused, call-passed}
+use Rattle.checker.proofs.season_set.Goals as goal
+use Rattle.checker.proofs.season_set.Goals.{After-admit-a}
+
+abbrev asked : After-admit-a → Call
+asked c = let a = c.args in Call.set_slot a.game a.slot
+
+pub returns-then-a-ne0 : goal.returns-then-a-ne0
+returns-then-a-ne0 c =
+    call-refused c.admit-a.ensures (asked (goal.at.returns-then-a-ne0 c).After-admit-a) c.if-a-ne0.true c.declined.ensures
+
+pub set-requires : goal.set-requires
+set-requires c = c.admit-a.ensures.ready c.if-a-ne0.false
+
+pub returns : goal.returns
+returns c =
+    call-passed c.admit-a.ensures (asked (goal.at.returns c).After-admit-a) c.if-a-ne0.false c.set.ensures
