@@ -5,7 +5,6 @@
 #![tactic(auto)]
 
 ghost use Rattle.std.specs.Prelude.{◌≤◌, length, IfOk};
-ghost use Rattle.std.specs.Io.{ReadsAtMost};
 
 use robinx::Reply;
 use std::io;
@@ -17,24 +16,9 @@ struct Read {
     value: u64,
 }
 
-// Reads until the space is full or the input ends, and gives the number of bytes that were read.
-fn read_full(input: &mut impl io::Read, space: &mut [u8]) -> io::Result<usize>
-    ensures { ReadsAtMost result space.new }
-{
-    let mut n = 0;
-    while n < space.len() {
-        let more = input.read(&mut space[n..])?;
-        if more == 0 {
-            break;
-        }
-        n += more;
-    }
-    Ok(n)
-}
-
 fn read_word(input: &mut impl io::Read) -> io::Result<Read> {
     let mut bytes = [0u8; 8];
-    let n = read_full(input, &mut bytes)?;
+    let n = input::read_full(input, &mut bytes)?;
     Ok(Read {
         found: n == 8,
         value: reader::long(&bytes, 0),
@@ -128,9 +112,9 @@ fn print_all(rt: &impl Print, season: &[u8], sheet: [u8; 6], calls: &[u64]) -> i
 fn main(rt: HostRuntime) -> io::Result<()> {
     let mut input = rt.reader();
     let mut season = [0u8; 114];
-    read_full(&mut input, &mut season)?;
+    input::read_full(&mut input, &mut season)?;
     let mut sheet = [0u8; 6];
-    read_full(&mut input, &mut sheet)?;
+    input::read_full(&mut input, &mut sheet)?;
     let mut words = [0u64; 192];
     let n = read_words(&mut input, &mut words)?;
     print_all(&rt, &season, sheet, &words[..n])

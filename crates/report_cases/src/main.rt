@@ -4,7 +4,6 @@
 #![tactic(auto)]
 
 ghost use Rattle.std.specs.Prelude.{◌<◌, ◌≤◌, IfOk};
-ghost use Rattle.std.specs.Io.{ReadsAtMost};
 ghost use Rattle.report_reply.specs.ReportReply.{most_bytes};
 
 use std::io;
@@ -14,27 +13,12 @@ fn print_number(rt: &impl Print, k: u64) -> io::Result<()> {
     println!(rt; "case {k}")
 }
 
-// Reads until the space is full or the input ends, and gives the number of bytes that were read.
-fn read_full(input: &mut impl Read, space: &mut [u8]) -> io::Result<usize>
-    ensures { ReadsAtMost result space.new }
-{
-    let mut n = 0;
-    while n < space.len() {
-        let more = input.read(&mut space[n..])?;
-        if more == 0 {
-            break;
-        }
-        n += more;
-    }
-    Ok(n)
-}
-
 // The length that stands next on standard input; a number that no length reaches where nothing does.
 fn next_length(input: &mut impl Read) -> io::Result<usize>
     ensures { IfOk result (λ length. length ≤ 65536) }
 {
     let mut header = [0u8; 2];
-    if read_full(input, &mut header)? < 2 {
+    if input::read_full(input, &mut header)? < 2 {
         return Ok(65536);
     }
     Ok(reader::short(&header, 0))
@@ -52,7 +36,7 @@ fn cut(length: usize) -> usize
 }
 
 fn print_read(rt: &impl Print, input: &mut impl Read, space: &mut [u8]) -> io::Result<()> {
-    let n = read_full(input, space)?;
+    let n = input::read_full(input, space)?;
     let kept = cut(n);
     printing::print(rt, &space[..kept])
 }

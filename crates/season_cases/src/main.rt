@@ -4,10 +4,8 @@
 #![tactic(auto)]
 
 ghost use Rattle.std.specs.Prelude.{◌+◌, ◌<◌, ◌≤◌, length, IfOk};
-ghost use Rattle.std.specs.Io.{ReadsAtMost};
 
 use std::io;
-use std::io::Read;
 
 // The most bytes of standard input that are read.
 const MOST_BYTES: usize = 65536;
@@ -43,23 +41,8 @@ fn print_cases(rt: &impl Print, input: &[u8]) -> io::Result<()> {
     Ok(())
 }
 
-// Reads until the space is full or the input ends, and gives the number of bytes that were read.
-fn read_full(input: &mut impl Read, space: &mut [u8]) -> io::Result<usize>
-    ensures { ReadsAtMost result space.new }
-{
-    let mut n = 0;
-    while n < space.len() {
-        let more = input.read(&mut space[n..])?;
-        if more == 0 {
-            break;
-        }
-        n += more;
-    }
-    Ok(n)
-}
-
 fn main(rt: HostRuntime) -> io::Result<()> {
     let mut input = [0u8; MOST_BYTES];
-    let n = read_full(&mut rt.reader(), &mut input)?;
+    let n = input::read_full(&mut rt.reader(), &mut input)?;
     print_cases(&rt, &input[..n])
 }

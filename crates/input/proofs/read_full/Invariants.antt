@@ -1,6 +1,6 @@
 -- What was read lies inside the space, and each read but the last makes the rest of it smaller.
 use Rattle.std.proofs.Common.{length, ◌-◌, ◌≤◌}
-use Rattle.replay_cases.proofs.read_full.Given as goal
+use Rattle.input.proofs.read_full.Given as goal
 
 abbrev pub invariant-loop-n : goal.invariant-loop-n
 invariant-loop-n g l = l.n ≤ length l.space
