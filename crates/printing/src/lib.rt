@@ -4,46 +4,34 @@
 
 ghost use Rattle.std.specs.Prelude.{◌*◌, ◌≤◌, length};
 
-use libc::STDOUT_FILENO;
 use robinx::Season;
+use std::io;
 
-fn print_refused(number: u8) {
-    io::write_all(
-        STDOUT_FILENO,
-        &[b'r', b'e', b'f', b'u', b's', b'e', b'd', b' '],
-    );
-    io::print_decimal(STDOUT_FILENO, number as u64);
-    io::write_all(STDOUT_FILENO, &[b'\n']);
+fn print_refused(rt: &impl Print, number: u8) -> io::Result<()> {
+    println!(rt; "refused {number}")
 }
 
 // Three numbers on one line.
-fn print_row(first: u64, second: u64, third: u64) {
-    io::print_decimal(STDOUT_FILENO, first);
-    io::write_all(STDOUT_FILENO, &[b' ']);
-    io::print_decimal(STDOUT_FILENO, second);
-    io::write_all(STDOUT_FILENO, &[b' ']);
-    io::print_decimal(STDOUT_FILENO, third);
-    io::write_all(STDOUT_FILENO, &[b'\n']);
+fn print_row(rt: &impl Print, first: u64, second: u64, third: u64) -> io::Result<()> {
+    println!(rt; "{first} {second} {third}")
 }
 
-fn print_rows(out: &[u64], count: usize)
+fn print_rows(rt: &impl Print, out: &[u64], count: usize) -> io::Result<()>
     requires { 3 * count ≤ length out.now }
 {
-    let mut k = 0;
-    while k < count {
+    for k in 0..count {
         let at = 3 * k;
-        print_row(out[at], out[at + 1], out[at + 2]);
-        k += 1;
+        print_row(rt, out[at], out[at + 1], out[at + 2])?;
     }
+    Ok(())
 }
 
 // Prints the report of an input.
-pub fn print(input: &[u8]) {
+pub fn print(rt: &impl Print, input: &[u8]) -> io::Result<()> {
     let mut out = [0u64; 3 * (Season::CONSTRAINTS + 1)];
     let r = report::rows(input, &mut out);
     if r.fault != 0 {
-        print_refused(r.fault);
-        return;
+        return print_refused(rt, r.fault);
     }
-    print_rows(&out, r.count);
+    print_rows(rt, &out, r.count)
 }

@@ -4,10 +4,10 @@
 
 #![tactic(auto)]
 
-ghost use Rattle.std.specs.Prelude.{◌≤◌, length};
+ghost use Rattle.std.specs.Prelude.{◌≤◌, length, IfOk};
 
-use libc::{STDIN_FILENO, STDOUT_FILENO};
 use robinx::Reply;
+use std::io;
 
 // A number that was read, or the end of the input.
 #[derive(Clone, Copy)]
@@ -16,105 +16,106 @@ struct Read {
     value: u64,
 }
 
-fn read_word() -> Read {
+fn read_word(input: &mut impl io::Read) -> io::Result<Read> {
     let mut bytes = [0u8; 8];
-    let n = io::read_full(STDIN_FILENO, &mut bytes);
-    Read {
+    let n = input::read_full(input, &mut bytes)?;
+    Ok(Read {
         found: n == 8,
         value: reader::long(&bytes, 0),
-    }
+    })
 }
 
 // Reads words as far as there is room, and gives their number.
-fn read_words(words: &mut [u64]) -> usize
-    ensures { result ≤ length words.old }
+fn read_words(input: &mut impl io::Read, words: &mut [u64]) -> io::Result<usize>
+    ensures { IfOk result (λ n. n ≤ length words.old) }
 {
-    let mut n = 0;
-    while n < words.len() {
-        let word = read_word();
+    for (n, place) in words.iter_mut().enumerate() {
+        let word = read_word(input)?;
         if !word.found {
-            return n;
+            return Ok(n);
         }
-        words[n] = word.value;
-        n += 1;
+        *place = word.value;
     }
-    n
+    Ok(words.len())
 }
 
-fn print_number(text: &[u8], n: u64) {
-    io::write_all(STDOUT_FILENO, text);
-    io::print_decimal(STDOUT_FILENO, n);
+fn print_number(rt: &impl Print, text: &[u8], n: u64) -> io::Result<()> {
+    rt.write_all(text)?;
+    rt.print(n)
 }
 
-fn print_item(n: u64) {
-    print_number(b" ", n);
+fn print_item(rt: &impl Print, n: u64) -> io::Result<()> {
+    print_number(rt, b" ", n)
 }
 
-fn print_change(change: i64) {
+fn print_change(rt: &impl Print, change: i64) -> io::Result<()> {
     let word = played::word(change);
     if change < 0 {
-        print_number(b" (-", std::num::wrapping_sub_u64(0, word));
+        print_number(rt, b" (-", 0u64.wrapping_sub(word))?;
     } else {
-        print_number(b" (+", word);
+        print_number(rt, b" (+", word)?;
     }
-    io::write_all(STDOUT_FILENO, b")");
+    rt.write_all(b")")
 }
 
-fn print_reply(reply: Reply) {
+fn print_reply(rt: &impl Print, reply: Reply) -> io::Result<()> {
     if reply.declined {
-        print_number(b"refused ", reply.number as u64);
+        print_number(rt, b"refused ", reply.number as u64)
     } else {
-        print_number(b"verdict ", reply.number as u64);
+        print_number(rt, b"verdict ", reply.number as u64)
     }
 }
 
-fn print_sheet(sheet: &[u8]) {
-    let mut i = 0;
-    while i < sheet.len() {
-        print_item(sheet[i] as u64);
-        i += 1;
+fn print_sheet(rt: &impl Print, sheet: &[u8]) -> io::Result<()> {
+    for slot in sheet {
+        print_item(rt, *slot as u64)?;
     }
+    Ok(())
 }
 
-fn print_tally(tally: &[u64]) {
-    let mut i = 0;
-    while i < tally.len() {
-        print_item(tally[i]);
-        i += 1;
+fn print_tally(rt: &impl Print, tally: &[u64]) -> io::Result<()> {
+    for word in tally {
+        print_item(rt, *word)?;
     }
+    Ok(())
 }
 
 // Plays a list of calls on buffers of its own.
-fn print_after(season: &[u8], mut sheet: [u8; 6], calls: &[u64]) {
+fn print_after(
+    rt: &impl Print,
+    season: &[u8],
+    mut sheet: [u8; 6],
+    calls: &[u64],
+) -> io::Result<()> {
     let mut ledger = [0u32; 12];
     let mut tally = [0u64; 6];
     let p = replay::play(season, &mut sheet, &mut ledger, &mut tally, calls);
-    print_reply(p.reply);
-    print_number(b", infeasibility ", p.infeasibility);
-    print_change(p.reply.infeasibility);
-    print_number(b", objective ", p.objective);
-    print_change(p.reply.objective);
-    io::write_all(STDOUT_FILENO, b", sheet");
-    print_sheet(&sheet);
-    io::write_all(STDOUT_FILENO, b", tally");
-    print_tally(&tally);
-    io::write_all(STDOUT_FILENO, b"\n");
+    print_reply(rt, p.reply)?;
+    print_number(rt, b", infeasibility ", p.infeasibility)?;
+    print_change(rt, p.reply.infeasibility)?;
+    print_number(rt, b", objective ", p.objective)?;
+    print_change(rt, p.reply.objective)?;
+    rt.write_all(b", sheet")?;
+    print_sheet(rt, &sheet)?;
+    rt.write_all(b", tally")?;
+    print_tally(rt, &tally)?;
+    rt.write_all(b"\n")
 }
 
-fn print_all(season: &[u8], sheet: [u8; 6], calls: &[u64]) {
-    let mut end = 0;
-    while end <= calls.len() {
-        print_after(season, sheet, &calls[..end]);
-        end += 3;
+fn print_all(rt: &impl Print, season: &[u8], sheet: [u8; 6], calls: &[u64]) -> io::Result<()> {
+    for end in (0..=calls.len()).step_by(3) {
+        print_after(rt, season, sheet, &calls[..end])?;
     }
+    Ok(())
 }
 
-fn main() {
+fn main(rt: HostRuntime) -> io::Result<()> {
+    let mut input = rt.reader();
     let mut season = [0u8; 114];
-    io::read_full(STDIN_FILENO, &mut season);
+    input::read_full(&mut input, &mut season)?;
     let mut sheet = [0u8; 6];
-    io::read_full(STDIN_FILENO, &mut sheet);
+    input::read_full(&mut input, &mut sheet)?;
     let mut words = [0u64; 192];
-    let n = read_words(&mut words);
-    print_all(&season, sheet, &words[..n]);
+    let n = read_words(&mut input, &mut words)?;
+    print_all(&rt, &season, sheet, &words[..n])
 }

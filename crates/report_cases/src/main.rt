@@ -3,26 +3,25 @@
 
 #![tactic(auto)]
 
-ghost use Rattle.std.specs.Prelude.{◌<◌, ◌≤◌};
+ghost use Rattle.std.specs.Prelude.{◌<◌, ◌≤◌, IfOk};
 ghost use Rattle.report_reply.specs.ReportReply.{most_bytes};
 
-use libc::{STDIN_FILENO, STDOUT_FILENO};
+use std::io;
+use std::io::Read;
 
-fn print_number(k: u64) {
-    io::write_all(STDOUT_FILENO, &[b'c', b'a', b's', b'e', b' ']);
-    io::print_decimal(STDOUT_FILENO, k);
-    io::write_all(STDOUT_FILENO, &[b'\n']);
+fn print_number(rt: &impl Print, k: u64) -> io::Result<()> {
+    println!(rt; "case {k}")
 }
 
 // The length that stands next on standard input; a number that no length reaches where nothing does.
-fn next_length() -> usize
-    ensures { result ≤ 65536 }
+fn next_length(input: &mut impl Read) -> io::Result<usize>
+    ensures { IfOk result (λ length. length ≤ 65536) }
 {
     let mut header = [0u8; 2];
-    if io::read_full(STDIN_FILENO, &mut header) < 2 {
-        return 65536;
+    if input::read_full(input, &mut header)? < 2 {
+        return Ok(65536);
     }
-    reader::short(&header, 0)
+    Ok(reader::short(&header, 0))
 }
 
 // An input longer than the program's own buffer is cut there.
@@ -36,33 +35,36 @@ fn cut(length: usize) -> usize
     }
 }
 
-fn print_read(space: &mut [u8]) {
-    let n = io::read_full(STDIN_FILENO, space);
+fn print_read(rt: &impl Print, input: &mut impl Read, space: &mut [u8]) -> io::Result<()> {
+    let n = input::read_full(input, space)?;
     let kept = cut(n);
-    printing::print(&space[..kept]);
+    printing::print(rt, &space[..kept])
 }
 
-fn print_case(length: usize)
+fn print_case(rt: &impl Print, input: &mut impl Read, length: usize) -> io::Result<()>
     requires { length < 65536 }
 {
-    let mut space = io::large_buffer();
-    print_read(&mut space[..length]);
+    let mut space = [0u8; 65536];
+    print_read(rt, input, &mut space[..length])
 }
 
 // Prints case k, and answers whether there was one.
-fn next(k: u64) -> bool {
-    let length = next_length();
+fn next(rt: &impl Print, input: &mut impl Read, k: u64) -> io::Result<bool> {
+    let length = next_length(input)?;
     if length < 65536 {
-        print_number(k);
-        print_case(length);
-        return true;
+        print_number(rt, k)?;
+        print_case(rt, input, length)?;
+        return Ok(true);
     }
-    false
+    Ok(false)
 }
 
-fn main() {
-    let mut k = 0;
-    while k < 1000 && next(k) {
-        k += 1;
+fn main(rt: HostRuntime) -> io::Result<()> {
+    let mut input = rt.reader();
+    for k in 0..1000 {
+        if !next(&rt, &mut input, k)? {
+            break;
+        }
     }
+    Ok(())
 }

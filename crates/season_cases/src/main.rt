@@ -3,43 +3,46 @@
 
 #![tactic(auto)]
 
-ghost use Rattle.std.specs.Prelude.{◌+◌, ◌<◌, ◌≤◌, length};
+ghost use Rattle.std.specs.Prelude.{◌+◌, ◌<◌, ◌≤◌, length, IfOk};
 
-use libc::{STDIN_FILENO, STDOUT_FILENO};
+use std::io;
 
-fn print_case(season: &[u8]) {
+// The most bytes of standard input that are read.
+const MOST_BYTES: usize = 65536;
+
+fn print_case(rt: &impl Print, season: &[u8]) -> io::Result<()> {
     let found = season::examine(season);
-    io::print_decimal(STDOUT_FILENO, found.fault as u64);
+    rt.print(found.fault)?;
     if found.fault == 0 {
-        io::write_all(STDOUT_FILENO, b" ");
-        io::print_decimal(STDOUT_FILENO, found.entries as u64);
+        print!(rt; " {}", found.entries)?;
     }
-    io::write_all(STDOUT_FILENO, b"\n");
+    println!(rt)
 }
 
 // Prints the case at a place and gives the place after it. A case that the input cuts off is the last.
-fn next_case(input: &[u8], at: usize) -> usize
+fn next_case(rt: &impl Print, input: &[u8], at: usize) -> io::Result<usize>
     requires { at + 2 ≤ length input.now }
-    ensures { (at < result) × (result ≤ length input.now) }
+    ensures { IfOk result (λ end. (at < end) × (end ≤ length input.now)) }
 {
     let start = at + 2;
     let end = start + reader::short(input, at);
     if input.len() < end {
-        return input.len();
+        return Ok(input.len());
     }
-    print_case(&input[start..end]);
-    end
+    print_case(rt, &input[start..end])?;
+    Ok(end)
 }
 
-fn print_cases(input: &[u8]) {
+fn print_cases(rt: &impl Print, input: &[u8]) -> io::Result<()> {
     let mut at: usize = 0;
     while at + 2 <= input.len() {
-        at = next_case(input, at);
+        at = next_case(rt, input, at)?;
     }
+    Ok(())
 }
 
-fn main() {
-    let mut input = io::large_buffer();
-    let n = io::read_full(STDIN_FILENO, &mut input);
-    print_cases(&input[..n]);
+fn main(rt: HostRuntime) -> io::Result<()> {
+    let mut input = [0u8; MOST_BYTES];
+    let n = input::read_full(&mut rt.reader(), &mut input)?;
+    print_cases(&rt, &input[..n])
 }

@@ -2,10 +2,10 @@
 
 #![tactic(auto)]
 
-use libc::STDIN_FILENO;
+use std::io;
 
-fn main() {
+fn main(rt: HostRuntime) -> io::Result<()> {
     let mut input = [0u8; report::MOST_BYTES];
-    let n = io::read_full(STDIN_FILENO, &mut input);
-    printing::print(&input[..n]);
+    let n = input::read_full(&mut rt.reader(), &mut input)?;
+    printing::print(&rt, &input[..n])
 }
