@@ -37,12 +37,12 @@ pub record Below (z : ℤ) : Type 0 where
   pub reads : to_z w64 (of_z w64 (pos n)) ≡ pos n
 
 pub below : (z : ℤ) → SFits w64 z → lt_z (to_z w64 (of_z w64 z)) (pos 0) ≡ true → Below z
-below (pos n) f t = absurd (true≢false (sym t ∙ rw (to_z-of_z f) (le-ltb n 0 (omega arith))))
+below (pos n) f t = absurd (true≢false (sym t ∙ rw (to_z-of_z {w = w64} f) (le-ltb n 0 (omega arith))))
 below (negsuc n) f t = record {
   n = n;
   small = f.sfits;
   is = refl;
-  less = rw (to_z-of_z f, le-ltb (suc n) 1 (omega arith)) (ap pos (omega arith));
+  less = rw (to_z-of_z {w = w64} f, le-ltb (suc n) 1 (omega arith)) (ap pos (omega arith));
   reads = to_z_pos w64 f.sfits;
 }
 
@@ -54,8 +54,8 @@ pub record NotNegative (z : ℤ) : Type 0 where
   pub reads : to_z w64 (of_z w64 z) ≡ pos n
 
 pub from : (z : ℤ) → SFits w64 z → lt_z (to_z w64 (of_z w64 z)) (pos 0) ≡ false → NotNegative z
-from (pos n) f t = record { n = n; small = f.sfits; is = refl; reads = to_z-of_z f }
-from (negsuc n) f t = absurd (true≢false (rw (to_z-of_z f) at t))
+from (pos n) f t = record { n = n; small = f.sfits; is = refl; reads = to_z-of_z {w = w64} f }
+from (negsuc n) f t = absurd (true≢false (rw (to_z-of_z {w = w64} f) at t))
 
 pub below_word : {z : ℤ} (b : Below z) → 2 ^ 64 - 1 - b.n ≡ word z
 unfolding word
@@ -67,4 +67,4 @@ from-word b = let h = b.small in rw b.is (omega arith)
 
 -- a field's number, read from its bits
 pub read_back : (z : ℤ) {h : ℕ} → mag z < 2 ^ 63 → h ≡ word (to_z w64 (of_z w64 z)) → h ≡ word z
-read_back z small e = e ∙ ap word (to_z-of_z (record { sfits = small }))
+read_back z small e = e ∙ ap word (to_z-of_z {w = w64} (record { sfits = small }))

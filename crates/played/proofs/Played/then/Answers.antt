@@ -11,4 +11,4 @@ returns c =
     let told = c.struct_told-1.given.1.1 in
     let hard = read_back r.infeasibility told.0.1 c.word-hard.ensures in
     let soft = read_back r.objective told.1.0.1 c.word-soft.ensures in
-    with-is a.self r hard soft c.wrapping_add_u64.ensures c.wrapping_add_u64-2.ensures
+    with-is a.self r hard soft c.wrapping_add_u64.ensures.value c.wrapping_add_u64-2.ensures.value
