@@ -105,7 +105,7 @@ module _ (s : List ℕ) (b : Buffers) {r : Examined} (x : Examination (of_season
             record {
               few = omega arith;
               aways-length = sound-season.aways ∙ sym sound-season.homes;
-              home_below = λ g l. omega (arith, (ok.game g (rw sound-season.homes at l)).home, ok.teams);
+              home-below = λ g l. omega (arith, (ok.game g (rw sound-season.homes at l)).home, ok.teams);
               away-below = λ g l. omega (arith, (ok.game g (rw sound-season.homes at l)).away, ok.teams);
               differ = λ g l. (ok.game g (rw sound-season.homes at l)).differ;
             },

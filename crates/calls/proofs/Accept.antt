@@ -1,6 +1,6 @@
 -- What the numbers of a set or an exchange tell before and after the tables are tried.
 use mathlib.Core.Path.{◌≡◌, sym}
-use mathlib.Core.List.{List, []}
+use mathlib.Core.List.{List}
 use mathlib.Core.Bool.{Bool, true, false, ◌||◌}
 use Prim.Native.Nat.{ℕ, ◌+◌, ◌-◌, ◌<◌, ◌≤◌}
 use native.Mathlib.Omega.{arith}
@@ -88,7 +88,7 @@ module _ {s : List ℕ} {t : Tables} {b : Buffers} {z : Season} {u : ℕ} (r : R
   move-possible g from to e l lf lt =
       let w = range-most.teams in
       rw e (record {
-        home = w.home_below g (omega (arith, as-many-games));
+        home = w.home-below g (omega (arith, as-many-games));
         away = w.away-below g (omega (arith, as-many-games));
         from = lf;
         to = lt;

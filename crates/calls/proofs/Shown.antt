@@ -35,7 +35,7 @@ module _ (s sheet : List ℕ) (L T : ℕ) (p : Passed s sheet L T) where
         teams = record {
           few = is-sound.teams;
           aways-length = decode-away s p.s3 ∙ sym h;
-          home_below = λ g l. (is-sound.game g (rw h at l)).home;
+          home-below = λ g l. (is-sound.game g (rw h at l)).home;
           away-below = λ g l. (is-sound.game g (rw h at l)).away;
           differ = λ g l. (is-sound.game g (rw h at l)).differ;
         };

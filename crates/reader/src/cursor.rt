@@ -1,6 +1,6 @@
-// The one reader: it holds the season and walks its constraints. Functions over it are thin and proved by hand, and the work is left to
-// `constraint_at`. `examine_constraints` carries one cursor from the first constraint to the last, and its loop is walked by hand too. A
-// caller that asks for one constraint uses `constraint_of`, whose parameters are plain, and so needs no such proof.
+// The one reader: it holds the season and walks its constraints. Functions over it are thin, and the work is left to `constraint_at`.
+// `examine_constraints` carries one cursor from the first constraint to the last. A caller that asks for one constraint uses `constraint_of`,
+// whose parameters are plain.
 ghost use Rattle.std.specs.Prelude.{◌≡◌, ◌+◌, ◌<◌, ◌^◌};
 ghost use Rattle.robinx.specs.Season.{decode};
 ghost use Rattle.reader.specs.Sizes.{Measured};

@@ -12,7 +12,7 @@ use lib.Seq.{length-take-le}
 use borrow.Author.Tests.{eqb-true, eqb-false, leb-true, leb-false, ltb-false, not-false}
 use Rattle.robinx.specs.Sums.{sum_to, only}
 use Rattle.robinx.specs.Groups.{size}
-use Rattle.robinx.specs.Season.{Instance, decode, games, constraints, season_length, home_teams, away_teams, most_byte, slots_of, most_teams, most_slots, most_games, most_constraints}
+use Rattle.robinx.specs.Season.{Instance, decode, games, season_length, home_teams, away_teams, most_byte, slots_of, most_teams, most_slots, most_games, most_constraints}
 use Rattle.robinx.specs.Timetable.{clash}
 use Rattle.robinx.specs.Kinds.{Kind, kind_of, asks_of, asks_at}
 use Rattle.robinx.specs.Rules.{fits, asked, holds, function_fits, several_teams, keeps, obeys}

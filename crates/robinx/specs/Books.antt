@@ -1,5 +1,5 @@
 -- The fresh books of a sheet (demand 2): every deviation, penalty and total worked out from it, and the verdict.
-use Rattle.std.specs.Prelude.{List, [], ◌∷◌, ◌++◌, Bool, cond, not, ℕ, ◌+◌, eqb, ltb, get_or}
+use Rattle.std.specs.Prelude.{List, [], ◌∷◌, ◌++◌, Bool, cond, not, ℕ, eqb, ltb, get_or}
 use Rattle.robinx.specs.Sums.{sum_to, cat_to, list_to, any_to, only}
 use Rattle.robinx.specs.Season.{Instance}
 use Rattle.robinx.specs.Timetable.{X, meetings}

@@ -10,7 +10,6 @@ use borrow.Author.Tests.{eqb-true, eqb-false}
 use Rattle.robinx.specs.Sums.{sum_to, any_to}
 use Rattle.robinx.specs.Season.{Instance, decode, most_teams, most_slots}
 use Rattle.robinx.specs.Rules.{obeys}
-use Rattle.robinx.specs.Deviations.{entries}
 use Rattle.robinx.specs.Books.{start_at}
 use Rattle.robinx.specs.Refusals.{sentence, sentence5, first_true}
 use Rattle.robinx.specs.declared.Season.{Season}

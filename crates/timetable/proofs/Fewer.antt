@@ -19,7 +19,7 @@ in-range-most range = record {
   teams = record {
     few = omega arith;
     aways-length = range.teams.aways-length;
-    home_below = λ g low. omega (arith, range.teams.home_below g low, range.teams.few);
+    home-below = λ g low. omega (arith, range.teams.home-below g low, range.teams.few);
     away-below = λ g low. omega (arith, range.teams.away-below g low, range.teams.few);
     differ = range.teams.differ;
   };
@@ -47,7 +47,7 @@ module _ (n : ℕ) (homes aways sheet : List ℕ) (range : InRange n homes aways
   no-host : (i j k : ℕ) → n ≤ i → meetings homes aways sheet i j k ≡ 0
   unfolding meetings is_at
   no-host i j k l =
-      sum-zero (length homes) (λ g low. rw (ne_eqb (get_or homes g 0) i (λ e. omega (arith, range.teams.home_below g low))))
+      sum-zero (length homes) (λ g low. rw (ne_eqb (get_or homes g 0) i (λ e. omega (arith, range.teams.home-below g low))))
 
   pub shows-for : {t : Tables} → Shows most_teams t homes aways sheet → Shows n t homes aways sheet
   shows-for {t} shows = record {

@@ -73,7 +73,7 @@ module _ {n : ℕ} {t : Tables} {homes aways sheet : List ℕ} (range : InRange 
   j = get_or aways g 0
 
   li : i < n
-  li = range.teams.home_below g low
+  li = range.teams.home-below g low
 
   lj : j < n
   lj = range.teams.away-below g low

@@ -35,14 +35,14 @@ module _ {n : ℕ} {t : Tables} {homes aways sheet : List ℕ} (range : InRange 
         omega (arith, term-le-sum (λ h. only (is_at homes aways sheet i j k h) 1) g (length homes) low)
 
     pub game-meets : bit (get_or t.meets (cell (get_or homes g 0) (get_or aways g 0)) 0) k ≡ 1
-    game-meets = omega (arith, met, shows.x i j k (range.teams.home_below g low) (range.teams.away-below g low) lk, bit-lt (get_or t.meets (cell i j) 0) k)
+    game-meets = omega (arith, met, shows.x i j k (range.teams.home-below g low) (range.teams.away-below g low) lk, bit-lt (get_or t.meets (cell i j) 0) k)
 
     pub game-home : bit (get_or t.home (get_or homes g 0) 0) k ≡ 1
     game-home =
         omega (
           arith,
           game-meets,
-          shows.tied.home-row i k (range.teams.home_below g low) lk,
+          shows.tied.home-row i k (range.teams.home-below g low) lk,
           term-le-sum (λ q. x_of t.meets i q k) j n (range.teams.away-below g low),
           bit-lt (get_or t.home i 0) k,
         )
@@ -53,7 +53,7 @@ module _ {n : ℕ} {t : Tables} {homes aways sheet : List ℕ} (range : InRange 
           arith,
           game-meets,
           shows.tied.away-row j k (range.teams.away-below g low) lk,
-          term-le-sum (λ p. x_of t.meets p j k) i n (range.teams.home_below g low),
+          term-le-sum (λ p. x_of t.meets p j k) i n (range.teams.home-below g low),
           bit-lt (get_or t.away j 0) k,
         )
 

@@ -15,7 +15,7 @@ pub record Shows (n : ℕ) (t : Tables) (homes aways sheet : List ℕ) : Type 0 
 pub record Teams (n : ℕ) (homes aways : List ℕ) : Type 0 where
   pub few : n ≤ most_teams
   pub aways-length : length aways ≡ length homes
-  pub home_below : (g : ℕ) → g < length homes → get_or homes g 0 < n
+  pub home-below : (g : ℕ) → g < length homes → get_or homes g 0 < n
   pub away-below : (g : ℕ) → g < length homes → get_or aways g 0 < n
   pub differ : (g : ℕ) → g < length homes → get_or homes g 0 ≡ get_or aways g 0 → ⊥
 

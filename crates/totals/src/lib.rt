@@ -69,7 +69,7 @@ fn apply(totals: &mut Totals, change: Totals)
     totals.soft = moved_total(totals.soft, change.soft);
 }
 
-// The totals after a change. It lends a copy of its own, so that its callers need no proof by hand.
+// The totals after a change. It lends a copy of its own.
 pub fn moved(mut totals: Totals, change: Totals) -> Totals
     ensures { result ≡ moved_by totals change }
 {

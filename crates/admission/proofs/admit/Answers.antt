@@ -1,10 +1,7 @@
 -- The tests in their order. Assumes nothing.
 use mathlib.Core.Path.{◌≡◌, sym, ◌∙◌}
-use mathlib.Core.List.{List}
 use mathlib.Core.Bool.{false}
-use Prim.Native.Nat.{ℕ}
-use borrow.Author.Rules.{rules}
-use Rattle.robinx.specs.Calls.{Buffers, buffers}
+use Rattle.robinx.specs.Calls.{buffers}
 use Rattle.admission.proofs.Entry.{season-refused, few-constraints, misfit, lengths-refused, buildable, sheet-refused, admitted}
 use Rattle.admission.proofs.admit.Goals as goal
 use Rattle.admission.proofs.admit.Goals.{Else-lengths_bad}

@@ -1,5 +1,4 @@
 -- The games of the season, into the tables.
-use borrow.Author.Rules.{rules}
 use Rattle.robinx.specs.Season.{decode}
 use Rattle.admission.proofs.lay_tables.Goals as goal
 

@@ -1,11 +1,10 @@
 -- `between::column` meets its contract. Assumes nothing.
 use mathlib.Core.Path.{◌≡◌, refl, ap, ◌∙◌}
 use mathlib.Core.Bool.{Bool}
-use Prim.Native.Nat.{ℕ, ◌+◌, ◌-◌, ◌≤◌}
+use Prim.Native.Nat.{ℕ, ◌+◌}
 use native.Mathlib.Omega.{arith}
 use lib.ListN.{get_or}
 use Rattle.robinx.specs.Sums.{sum_to, only}
-use Rattle.robinx.specs.Groups.{bit}
 use Rattle.robinx.proofs.Sums.{sum_step, only-le}
 use Rattle.robinx.proofs.GroupSizes.{only-bit}
 use borrow.Author.Rules.{rules}

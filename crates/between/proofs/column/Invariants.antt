@@ -1,14 +1,9 @@
 -- `between::column` meets its contract. Assumes nothing.
-use mathlib.Core.Path.{◌≡◌, refl, ap, ◌∙◌}
-use mathlib.Core.Bool.{Bool}
-use Prim.Native.Nat.{ℕ, ◌+◌, ◌-◌, ◌≤◌}
-use native.Mathlib.Omega.{arith}
+use mathlib.Core.Path.{◌≡◌}
+use Prim.Native.Nat.{◌-◌, ◌≤◌}
 use lib.ListN.{get_or}
-use Rattle.robinx.specs.Sums.{sum_to, only}
+use Rattle.robinx.specs.Sums.{sum_to}
 use Rattle.robinx.specs.Groups.{bit}
-use Rattle.robinx.proofs.Sums.{sum_step, only-le}
-use Rattle.robinx.proofs.GroupSizes.{only-bit}
-use borrow.Author.Rules.{rules}
 use Rattle.between.proofs.column.Given as goal
 
 abbrev pub invariant-loop-i : goal.invariant-loop-i

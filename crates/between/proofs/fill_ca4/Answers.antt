@@ -16,7 +16,6 @@ use mathlib.Core.List.{List}
 use Prim.Native.Nat.{ℕ}
 use Rattle.opponents.proofs.Fillable.{limits, given-t1, places_of}
 use Rattle.between.proofs.Between.{one-figure, columns-between}
-use borrow.Author.Rules.{rules}
 use Rattle.between.proofs.fill_ca4.Goals as goal
 use Rattle.between.proofs.fill_ca4.Goals.{After-outside}
 

@@ -1,13 +1,10 @@
 -- `between::fill_columns` meets its contract. Assumes nothing.
 use mathlib.Core.Path.{◌≡◌, sym, ap, ◌∙◌}
-use mathlib.Core.List.{List}
-use Prim.Native.Nat.{ℕ, ◌-◌, ◌<◌, ◌≤◌}
+use Prim.Native.Nat.{◌<◌}
 use native.Mathlib.Omega.{arith}
-use lib.ListN.{length, get_or}
-use Rattle.robinx.specs.Sums.{sum_to}
-use Rattle.robinx.specs.Groups.{bit}
+use lib.ListN.{length}
 use Rattle.robinx.specs.Deviations.{outside}
-use Rattle.robinx.proofs.Filled.{FilledEach, each_none, each-room, each-taken, each-skipped, each-done}
+use Rattle.robinx.proofs.Filled.{each_none, each-room, each-taken, each-skipped, each-done}
 use borrow.Author.Rules.{rules}
 use Rattle.between.proofs.fill_columns.Goals as goal
 use Rattle.between.proofs.fill_columns.Goals.{After-outside, then-is_in, else-is_in}

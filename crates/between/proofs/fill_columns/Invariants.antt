@@ -1,15 +1,10 @@
 -- `between::fill_columns` meets its contract. Assumes nothing.
-use mathlib.Core.Path.{◌≡◌, sym, ap, ◌∙◌}
-use mathlib.Core.List.{List}
-use mathlib.Core.Logic.{⊎_elim}
-use Prim.Native.Nat.{ℕ, ◌-◌, ◌<◌, ◌≤◌}
-use native.Mathlib.Omega.{arith}
-use lib.ListN.{length, get_or}
+use Prim.Native.Nat.{◌-◌, ◌≤◌}
+use lib.ListN.{get_or}
 use Rattle.robinx.specs.Sums.{sum_to}
 use Rattle.robinx.specs.Groups.{bit}
 use Rattle.robinx.specs.Deviations.{outside}
-use Rattle.robinx.proofs.Filled.{FilledEach, each_none, each-room, each-taken, each-skipped, each-done}
-use borrow.Author.Rules.{rules}
+use Rattle.robinx.proofs.Filled.{FilledEach}
 use Rattle.between.proofs.fill_columns.Given as goal
 
 abbrev pub invariant-loop-k : goal.invariant-loop-k

@@ -8,7 +8,6 @@ use Rattle.robinx.specs.Deviations.{dev_ga1}
 use Rattle.tables.specs.Tables.{x_of}
 use Rattle.opponents.proofs.Fillable.{limits, given-t1, places_of}
 use Rattle.between.proofs.Between.{one-figure}
-use borrow.Author.Rules.{rules}
 use Rattle.between.proofs.fill_ga1.Goals as goal
 use Rattle.between.proofs.fill_ga1.Goals.{Start}
 

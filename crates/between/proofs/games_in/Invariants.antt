@@ -1,16 +1,11 @@
 -- `between::games_in` meets its contract. Assumes nothing.
-use mathlib.Core.Path.{◌≡◌, refl, ap, ◌∙◌}
-use Prim.Native.Nat.{ℕ, ◌+◌, ◌-◌, ◌*◌, ◌≤◌}
-use native.Mathlib.Omega.{arith}
+use mathlib.Core.Path.{◌≡◌}
+use Prim.Native.Nat.{◌-◌, ◌*◌, ◌≤◌}
 use Rattle.robinx.specs.Season.{most_slots}
 use Rattle.robinx.specs.Sums.{sum_to}
 use Rattle.robinx.specs.Deviations.{over}
-use Rattle.robinx.proofs.Sums.{sum_step}
-use Rattle.robinx.proofs.Ext.{over-ext}
 use Rattle.tables.specs.Tables.{x_of}
 use Rattle.between.specs.Between.{hosts}
-use Rattle.between.proofs.Between.{count-le, hosted-over}
-use borrow.Author.Rules.{rules}
 use Rattle.between.proofs.games_in.Given as goal
 
 abbrev pub invariant-loop-i : goal.invariant-loop-i

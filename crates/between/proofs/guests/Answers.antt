@@ -3,7 +3,6 @@ use mathlib.Core.Path.{ap₂, ◌∙◌}
 use mathlib.Core.Bool.{Bool, ◌&&◌}
 use lib.Bits.{bit_or}
 use Rattle.robinx.specs.Sums.{only}
-use borrow.Author.Rules.{rules}
 use Rattle.between.proofs.guests.Goals as goal
 
 pub returns : goal.returns

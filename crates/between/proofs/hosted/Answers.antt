@@ -4,7 +4,6 @@ use Prim.Native.Nat.{ℕ}
 use Rattle.robinx.specs.Timetable.{home_side, games_against}
 use Rattle.tables.specs.Tables.{x_of}
 use Rattle.between.proofs.Between.{guests-lt, hosts-against}
-use borrow.Author.Rules.{rules}
 use Rattle.between.proofs.hosted.Goals as goal
 
 pub against-requires : goal.against-requires

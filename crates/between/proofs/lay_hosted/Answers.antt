@@ -1,11 +1,7 @@
 -- `between::lay_hosted` meets its contract. Assumes nothing.
 use mathlib.Core.Path.{◌≡◌}
-use Prim.Native.Nat.{◌-◌, ◌≤◌}
 use native.Mathlib.Omega.{arith}
-use lib.ListN.{length, length-set}
-use Rattle.robinx.specs.Season.{most_teams}
-use Rattle.tables.specs.Tables.{x_of}
-use Rattle.between.specs.Between.{hosts, MasksOf}
+use lib.ListN.{length-set}
 use Rattle.between.proofs.Between.{masks-none, masks-more}
 use borrow.Author.Rules.{rules}
 use Rattle.between.proofs.lay_hosted.Goals as goal

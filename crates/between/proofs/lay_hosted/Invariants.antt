@@ -1,13 +1,10 @@
 -- `between::lay_hosted` meets its contract. Assumes nothing.
 use mathlib.Core.Path.{◌≡◌}
 use Prim.Native.Nat.{◌-◌, ◌≤◌}
-use native.Mathlib.Omega.{arith}
-use lib.ListN.{length, length-set}
+use lib.ListN.{length}
 use Rattle.robinx.specs.Season.{most_teams}
 use Rattle.tables.specs.Tables.{x_of}
 use Rattle.between.specs.Between.{hosts, MasksOf}
-use Rattle.between.proofs.Between.{masks-none, masks-more}
-use borrow.Author.Rules.{rules}
 use Rattle.between.proofs.lay_hosted.Given as goal
 
 abbrev pub invariant-loop-i : goal.invariant-loop-i

@@ -1,6 +1,5 @@
 -- The totals follow the penalties, and the reply follows from them.
 use native.Mathlib.Omega.{arith}
-use borrow.Author.Rules.{rules}
 use Rattle.walk.proofs.WalkTurns.{all}
 use Rattle.books.proofs.Totalled.{opened}
 use Rattle.books.proofs.open.Goals as goal

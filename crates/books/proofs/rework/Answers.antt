@@ -1,6 +1,5 @@
 -- The totals are moved after the walk, which left them as they were, and the reply follows from them.
 use native.Mathlib.Omega.{arith}
-use borrow.Author.Rules.{rules}
 use Rattle.walk.proofs.WalkTurns.{all}
 use Rattle.books.proofs.Totalled.{answered}
 use Rattle.books.proofs.rework.Goals as goal

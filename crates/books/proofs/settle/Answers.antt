@@ -1,6 +1,5 @@
 -- Both totals are read before they are written.
 use mathlib.Core.Path.{ap}
-use borrow.Author.Rules.{rules}
 use Rattle.totals.specs.declared.Totals.{Totals}
 use Rattle.books.proofs.settle.Goals as goal
 

@@ -1,7 +1,6 @@
 -- Two writes inside the tally.
 use native.Mathlib.Omega.{arith}
 use lib.ListN.{length-set}
-use borrow.Author.Rules.{rules}
 use Rattle.books.proofs.store.Goals as goal
 
 pub bounds-tally-at-2 : goal.bounds-tally-at-2

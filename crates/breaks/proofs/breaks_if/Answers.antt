@@ -1,6 +1,5 @@
 -- `breaks::breaks_if` meets its contract. Assumes nothing.
 use native.Mathlib.Nat.{le_trans, le_of_eq}
-use borrow.Author.Rules.{rules}
 use Rattle.robinx.specs.Season.{most_slots}
 use Rattle.masks.specs.Masks.{is_break}
 use Rattle.breaks.proofs.TeamBreaks.{over-le}

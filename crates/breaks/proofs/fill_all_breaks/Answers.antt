@@ -1,7 +1,6 @@
 -- `breaks::fill_all_breaks` meets its contract. Assumes nothing.
 use mathlib.Core.Path.{◌≡◌}
 use native.Mathlib.Omega.{arith}
-use borrow.Author.Rules.{rules}
 use lib.ListN.{length}
 use Rattle.robinx.specs.Kinds.{kind_of, form_of, form_at}
 use Rattle.robinx.specs.Deviations.{dev_br2, entries}

@@ -1,16 +1,9 @@
 -- `breaks::fill_breaks` meets its contract: before each turn the deviations of the teams passed are in. Assumes nothing.
-use mathlib.Core.Path.{◌≡◌, sym, ◌∙◌}
-use Prim.Native.Nat.{◌-◌, ◌<◌}
-use lib.ListN.{length}
-use borrow.Author.Rules.{rules}
-use Rattle.robinx.specs.Season.{most_teams}
-use Rattle.robinx.specs.Groups.{size}
+use Prim.Native.Nat.{◌-◌}
 use Rattle.robinx.specs.Timetable.{first_modes}
-use Rattle.robinx.specs.Kinds.{kind_of, form_of, form_at}
-use Rattle.robinx.specs.Deviations.{breaks, off_target, dev_br1, entries}
+use Rattle.robinx.specs.Deviations.{breaks, off_target}
 use Rattle.tables.specs.Tables.{x_of}
-use Rattle.opponents.proofs.Fillable.{limits}
-use Rattle.groups.proofs.MemberWalk.{EachPassed, each_start, each-place, each-few, each_turn, each-end}
+use Rattle.groups.proofs.MemberWalk.{EachPassed}
 use Rattle.breaks.proofs.fill_breaks.Given as goal
 
 abbrev pub invariant-loop-m : goal.invariant-loop-m

@@ -1,10 +1,6 @@
 -- `breaks::group_breaks` meets its contract: before each turn the breaks of the teams passed are summed. Assumes nothing.
-use Prim.Native.Nat.{◌-◌, ◌*◌, ◌≤◌}
-use Rattle.robinx.specs.Season.{most_slots}
-use Rattle.robinx.specs.Deviations.{breaks}
 use Rattle.robinx.proofs.Limits.{obeyed}
-use Rattle.tables.specs.Tables.{x_of}
-use Rattle.groups.proofs.MemberWalk.{SumPassed, sum-start, sum-turn, sum-end}
+use Rattle.groups.proofs.MemberWalk.{sum-start, sum-turn, sum-end}
 use borrow.Author.Rules.{rules}
 use Rattle.breaks.proofs.group_breaks.Goals as goal
 

@@ -2,10 +2,8 @@
 use Prim.Native.Nat.{◌-◌, ◌*◌, ◌≤◌}
 use Rattle.robinx.specs.Season.{most_slots}
 use Rattle.robinx.specs.Deviations.{breaks}
-use Rattle.robinx.proofs.Limits.{obeyed}
 use Rattle.tables.specs.Tables.{x_of}
-use Rattle.groups.proofs.MemberWalk.{SumPassed, sum-start, sum-turn, sum-end}
-use borrow.Author.Rules.{rules}
+use Rattle.groups.proofs.MemberWalk.{SumPassed}
 use Rattle.breaks.proofs.group_breaks.Given as goal
 
 abbrev pub invariant-loop-m : goal.invariant-loop-m

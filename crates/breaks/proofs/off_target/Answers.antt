@@ -1,7 +1,6 @@
 -- `breaks::off_target` meets its contract. Assumes nothing.
 use mathlib.Core.Path.{ap₂}
 use Prim.Native.Nat.{◌+◌}
-use borrow.Author.Rules.{rules}
 use Rattle.breaks.proofs.off_target.Goals as goal
 
 pub returns-then-first_modes : goal.returns-then-first_modes

@@ -1,5 +1,4 @@
 -- Sentences 1 to 8, then the fresh books. Assumes nothing.
-use borrow.Author.Rules.{rules}
 use Rattle.calls.proofs.Outcomes.{given, open_is}
 use Rattle.checker.proofs.Exported.{open-refused, open-accepted}
 use Rattle.checker.proofs.season_open.Goals as goal

@@ -1,5 +1,4 @@
 -- Sentences 1 to 8, then the call. Assumes nothing.
-use borrow.Author.Rules.{rules}
 use Rattle.robinx.specs.Calls.{Call}
 use Rattle.checker.proofs.Exported.{call-refused, call-passed}
 use Rattle.checker.proofs.season_set.Goals as goal

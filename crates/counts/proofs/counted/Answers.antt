@@ -1,6 +1,5 @@
 -- `counts::counted` meets its contract. Assumes nothing.
 use Rattle.counts.proofs.TeamFigures.{rivals-small}
-use borrow.Author.Rules.{rules}
 use Rattle.counts.proofs.counted.Goals as goal
 
 pub against-requires : goal.against-requires

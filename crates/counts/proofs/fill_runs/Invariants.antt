@@ -1,16 +1,8 @@
 -- `counts::fill_runs` meets its contract: before each turn the figures of the teams passed are in. Assumes nothing.
-use native.Mathlib.Omega.{arith}
-use mathlib.Core.Path.{◌≡◌, refl, sym, ◌∙◌}
-use Prim.Native.Nat.{◌-◌, ◌<◌}
-use lib.ListN.{length}
-use Rattle.robinx.specs.Season.{most_teams}
-use Rattle.robinx.specs.Groups.{size}
+use Prim.Native.Nat.{◌-◌}
 use Rattle.tables.specs.Tables.{x_of}
 use Rattle.counts.specs.TeamCounts.{FromZero, counted, off_runs}
-use Rattle.opponents.proofs.Fillable.{limits, given-t2}
-use Rattle.counts.proofs.TeamFigures.{run-games, run-figures, a-place-a-team}
-use Rattle.groups.proofs.MemberWalk.{EachPassed, each_start, each-place, each-few, each_turn, each-end}
-use borrow.Author.Rules.{rules}
+use Rattle.groups.proofs.MemberWalk.{EachPassed}
 use Rattle.counts.proofs.fill_runs.Given as goal
 
 abbrev pub invariant-loop-m : goal.invariant-loop-m

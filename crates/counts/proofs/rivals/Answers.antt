@@ -1,6 +1,5 @@
 -- All teams at CA1, else T2. Assumes nothing.
 use native.Mathlib.Omega.{arith}
-use borrow.Author.Rules.{rules}
 use borrow.Author.Tests.{eq-eqb, ne_eqb}
 use Rattle.counts.proofs.rivals.Goals as goal
 

@@ -1,6 +1,5 @@
 -- Sentences 9, 11 and 12, then the tables. Assumes nothing.
 use native.Mathlib.Omega.{arith}
-use borrow.Author.Rules.{rules}
 use Rattle.robinx.specs.Calls.{buffers}
 use Rattle.reader.proofs.Read.{games-read}
 use Rattle.calls.proofs.CallNumbers.{exchange-refused, exchange-passes}

@@ -3,7 +3,6 @@ use mathlib.Core.Path.{refl, ap}
 use Rattle.robinx.specs.Kinds.{kind_of, form_of}
 use Rattle.opponents.proofs.Fillable.{given-t1, places_of}
 use Rattle.fairness.proofs.RunningCounts.{teams-balance}
-use borrow.Author.Rules.{rules}
 use Rattle.fairness.proofs.fill_fa1.Goals as goal
 
 pub fill_teams-requires : goal.fill_teams-requires

@@ -3,7 +3,6 @@ use mathlib.Core.Path.{refl, ap}
 use Rattle.robinx.specs.Kinds.{kind_of, form_of}
 use Rattle.opponents.proofs.Fillable.{limits, given-t1, places_of}
 use Rattle.fairness.proofs.RunningCounts.{pairs-balance}
-use borrow.Author.Rules.{rules}
 use Rattle.fairness.proofs.fill_fa2.Goals as goal
 
 pub mode_sides-requires : goal.mode_sides-requires

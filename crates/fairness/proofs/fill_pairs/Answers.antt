@@ -1,8 +1,6 @@
 -- `fairness::fill_pairs` meets its contract. Before each turn the pairs whose lower member is passed are in. Assumes nothing.
 use mathlib.Core.Path.{sym, ◌∙◌}
-use Prim.Native.Nat.{◌-◌}
-use Rattle.fairness.specs.RunningCounts.{rows_apart}
-use Rattle.groups.proofs.MemberWalk.{RowsPassed, rows_start, rows-place, rows-turn, rows_end}
+use Rattle.groups.proofs.MemberWalk.{rows_start, rows-place, rows-turn, rows_end}
 use borrow.Author.Rules.{rules}
 use Rattle.fairness.proofs.fill_pairs.Goals as goal
 

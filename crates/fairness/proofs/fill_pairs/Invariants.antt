@@ -1,9 +1,7 @@
 -- `fairness::fill_pairs` meets its contract. Before each turn the pairs whose lower member is passed are in. Assumes nothing.
-use mathlib.Core.Path.{sym, ◌∙◌}
 use Prim.Native.Nat.{◌-◌}
 use Rattle.fairness.specs.RunningCounts.{rows_apart}
-use Rattle.groups.proofs.MemberWalk.{RowsPassed, rows_start, rows-place, rows-turn, rows_end}
-use borrow.Author.Rules.{rules}
+use Rattle.groups.proofs.MemberWalk.{RowsPassed}
 use Rattle.fairness.proofs.fill_pairs.Given as goal
 
 abbrev pub invariant-loop-m : goal.invariant-loop-m

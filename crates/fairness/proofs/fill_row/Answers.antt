@@ -1,9 +1,8 @@
 -- `fairness::fill_row` meets its contract. Before each turn the pairs with the members passed are in. Assumes nothing.
 use mathlib.Core.Path.{sym, ◌∙◌}
-use Prim.Native.Nat.{◌-◌, ◌<◌}
+use Prim.Native.Nat.{◌<◌}
 use lib.ListN.{length}
-use Rattle.fairness.specs.RunningCounts.{rows_apart}
-use Rattle.groups.proofs.MemberWalk.{RowPassed, row-start, row-place, row-turn, row-end}
+use Rattle.groups.proofs.MemberWalk.{row-start, row-place, row-turn, row-end}
 use borrow.Author.Rules.{rules}
 use Rattle.fairness.proofs.fill_row.Goals as goal
 use Rattle.fairness.proofs.fill_row.Goals.{After-rows_apart}

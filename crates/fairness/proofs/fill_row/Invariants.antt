@@ -1,10 +1,7 @@
 -- `fairness::fill_row` meets its contract. Before each turn the pairs with the members passed are in. Assumes nothing.
-use mathlib.Core.Path.{sym, ◌∙◌}
-use Prim.Native.Nat.{◌-◌, ◌<◌}
-use lib.ListN.{length}
+use Prim.Native.Nat.{◌-◌}
 use Rattle.fairness.specs.RunningCounts.{rows_apart}
-use Rattle.groups.proofs.MemberWalk.{RowPassed, row-start, row-place, row-turn, row-end}
-use borrow.Author.Rules.{rules}
+use Rattle.groups.proofs.MemberWalk.{RowPassed}
 use Rattle.fairness.proofs.fill_row.Given as goal
 
 abbrev pub invariant-loop-m : goal.invariant-loop-m

@@ -1,12 +1,8 @@
 -- `fairness::fill_teams` meets its contract: before each turn the figures of the teams passed are in. Assumes nothing.
-use mathlib.Core.Path.{◌≡◌, sym, ◌∙◌}
-use Prim.Native.Nat.{◌-◌, ◌<◌}
-use lib.ListN.{length}
+use mathlib.Core.Path.{sym, ◌∙◌}
+use Prim.Native.Nat.{◌<◌}
 use Rattle.robinx.specs.Season.{most_teams}
-use Rattle.tables.specs.Tables.{x_of}
-use Rattle.rows.specs.Rows.{places}
-use Rattle.fairness.specs.RunningCounts.{sides_apart}
-use Rattle.groups.proofs.MemberWalk.{EachPassed, each_start, each-place, each-few, each_turn, each-end}
+use Rattle.groups.proofs.MemberWalk.{each_start, each-place, each-few, each_turn, each-end}
 use borrow.Author.Rules.{rules}
 use Rattle.fairness.proofs.fill_teams.Goals as goal
 use Rattle.fairness.proofs.fill_teams.Goals.{After-imbalance}

@@ -4,7 +4,6 @@ use Rattle.robinx.specs.Timetable.{home_side, away_side}
 use Rattle.tables.specs.Tables.{x_of}
 use Rattle.fairness.specs.RunningCounts.{running}
 use Rattle.fairness.proofs.RunningCounts.{two-rows}
-use borrow.Author.Rules.{rules}
 use Rattle.fairness.proofs.imbalance.Goals as goal
 
 pub returns : goal.returns

@@ -5,7 +5,6 @@ use Rattle.robinx.specs.Season.{most_slots}
 use Rattle.tables.specs.Tables.{x_of}
 use Rattle.rows.proofs.Rows.{laid_at-ext}
 use Rattle.fairness.proofs.RunningCounts.{running-of}
-use borrow.Author.Rules.{rules}
 use Rattle.fairness.proofs.lay_games.Goals as goal
 
 pub returns : goal.returns

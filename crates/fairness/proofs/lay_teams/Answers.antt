@@ -1,7 +1,5 @@
 -- `fairness::lay_teams` meets its contract: before each turn the rows of the teams passed are laid. Assumes nothing.
-use Prim.Native.Nat.{◌-◌}
-use Rattle.tables.specs.Tables.{x_of}
-use Rattle.fairness.proofs.RunningCounts.{CountedPassed, counted_start, counted-turn, counted-end}
+use Rattle.fairness.proofs.RunningCounts.{counted_start, counted-turn, counted-end}
 use borrow.Author.Rules.{rules}
 use Rattle.fairness.proofs.lay_teams.Goals as goal
 

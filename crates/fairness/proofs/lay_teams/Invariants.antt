@@ -1,8 +1,7 @@
 -- `fairness::lay_teams` meets its contract: before each turn the rows of the teams passed are laid. Assumes nothing.
 use Prim.Native.Nat.{◌-◌}
 use Rattle.tables.specs.Tables.{x_of}
-use Rattle.fairness.proofs.RunningCounts.{CountedPassed, counted_start, counted-turn, counted-end}
-use borrow.Author.Rules.{rules}
+use Rattle.fairness.proofs.RunningCounts.{CountedPassed}
 use Rattle.fairness.proofs.lay_teams.Given as goal
 
 abbrev pub invariant-loop-m : goal.invariant-loop-m

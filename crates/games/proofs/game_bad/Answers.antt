@@ -6,7 +6,6 @@ use lib.ListN.{get_or}
 use borrow.Author.Tests.{le-leb, lt-leb}
 use Rattle.games.specs.Meetings.{pair_at, refused}
 use Rattle.games.proofs.Meetings.{teams-fit}
-use borrow.Author.Rules.{rules}
 use Rattle.games.proofs.game_bad.Goals as goal
 use Rattle.games.proofs.game_bad.Goals.{After-wide}
 

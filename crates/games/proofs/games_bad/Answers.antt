@@ -1,11 +1,9 @@
 -- After g games the table has their meetings; the first game that cannot be is sentence 4.
 use Rattle.games.specs.Meetings.{refused}
-use borrow.Author.Rules.{rules}
 use mathlib.Core.Path.{◌≡◌, sym, ◌∙◌}
 use native.Mathlib.Omega.{arith}
-use Prim.Native.Nat.{◌≤◌, ◌-◌}
 use lib.ListN.{length, get_or}
-use Rattle.games.proofs.Meetings.{MeetingsCounted, counted_none, counted-more, counted-bad, counted-good}
+use Rattle.games.proofs.Meetings.{counted_none, counted-more, counted-bad, counted-good}
 use Rattle.games.proofs.games_bad.Goals as goal
 use Rattle.games.proofs.games_bad.Goals.{After-game_bad}
 

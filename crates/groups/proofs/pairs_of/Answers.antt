@@ -3,7 +3,6 @@ use Prim.Native.Nat.{ℕ, zero, suc, ◌*◌, ◌≤◌}
 use native.Mathlib.Omega.{arith}
 use native.Mathlib.Nat.{mul-le-mul}
 use Rattle.groups.specs.Pairs.{pairs_in}
-use borrow.Author.Rules.{rules}
 use Rattle.groups.proofs.pairs_of.Goals as goal
 
 le-square : (k : ℕ) → k ≤ k * k

@@ -1,7 +1,6 @@
 -- The classes of kinds, a ten each.
 use native.Mathlib.Omega.{arith}
 use Rattle.kind_rules.proofs.RulesByNumber.{asked-none}
-use borrow.Author.Rules.{rules}
 use Rattle.kind_rules.proofs.obeys.Goals as goal
 
 pub returns-in_default : goal.returns-in_default

@@ -2,7 +2,6 @@
 use native.Mathlib.Omega.{arith}
 use Rattle.robinx.specs.Kinds.{kind_of, asks_of, asks_at}
 use Rattle.kind_rules.proofs.RulesByNumber.{asked-at, asked-none}
-use borrow.Author.Rules.{rules}
 use Rattle.kind_rules.proofs.separation_obeys.Goals as goal
 
 pub returns-in-51 : goal.returns-in-51

@@ -1,7 +1,6 @@
 -- The number of deviations by the shape of the row.
 use borrow.Author.Tests.{le-leb, lt-leb}
 use Rattle.rules.specs.CountedBits.{ones_in}
-use borrow.Author.Rules.{rules}
 use Rattle.kinds.proofs.entries_of.Goals as goal
 
 pub returns-in-Nothing : goal.returns-in-Nothing

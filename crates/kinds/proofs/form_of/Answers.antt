@@ -2,7 +2,6 @@
 use native.Mathlib.Omega.{arith}
 use mathlib.Core.Path.{◌∙◌}
 use Rattle.kinds.proofs.ByNumber.{form-of-none}
-use borrow.Author.Rules.{rules}
 use Rattle.kinds.proofs.form_of.Goals as goal
 use Rattle.kinds.proofs.form_of.Goals.{in_default-via-then-kind-lt10, in_default-via-else-kind-lt10+else-kind-lt20+else-kind-lt30+else-kind-lt40+else-kind-lt50+else-kind-lt60}
 

@@ -3,7 +3,6 @@ use native.Mathlib.Omega.{arith}
 use mathlib.Core.Path.{◌∙◌}
 use Rattle.robinx.specs.Kinds.{kind_of, form_of, form_at}
 use Rattle.kinds.proofs.ByNumber.{form-at, form-of-none}
-use borrow.Author.Rules.{rules}
 use Rattle.kinds.proofs.game_form.Goals as goal
 
 pub returns-in-21 : goal.returns-in-21

@@ -1,6 +1,5 @@
 -- Assumes nothing.
 use Rattle.robinx.specs.Kinds.{form_of}
-use borrow.Author.Rules.{rules}
 use Rattle.kinds.proofs.no_form.Goals as goal
 
 pub returns : goal.returns

@@ -1,5 +1,5 @@
 -- `masks::breaks_in` meets its contract. Assumes nothing.
-use Rattle.std.proofs.Common.{◌∙◌, rules}
+use Rattle.std.proofs.Common.{◌∙◌}
 use Rattle.robinx.proofs.Ext.{over-ext}
 use Rattle.masks.proofs.breaks_in.Goals as goal
 

@@ -5,7 +5,7 @@ use lib.Pow.{shr_le}
 use lib.Count.{count_trailing_zeros}
 use Rattle.robinx.specs.Sums.{sum_to}
 use Rattle.robinx.proofs.SetBits.{turn, first-turn}
-use Rattle.masks.proofs.GapWalk.{walked, Summed, summed-first, summed-next, summed-all}
+use Rattle.masks.proofs.GapWalk.{walked, summed-first, summed-next, summed-all}
 use Rattle.masks.proofs.closeness.Goals as goal
 use Rattle.masks.proofs.closeness.Goals.{In-loop-rest}
 

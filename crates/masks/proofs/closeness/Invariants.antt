@@ -1,10 +1,5 @@
 -- `masks::closeness` meets its contract. Before each turn the sum is that of the slots up to the last game, and the rest is the mask
-use Rattle.std.proofs.Common.{◌<◌, div-one, arith, rules}
-use lib.Pow.{shr_le}
-use lib.Count.{count_trailing_zeros}
-use Rattle.robinx.specs.Sums.{sum_to}
-use Rattle.robinx.proofs.SetBits.{turn, first-turn}
-use Rattle.masks.proofs.GapWalk.{walked, Summed, summed-first, summed-next, summed-all}
+use Rattle.masks.proofs.GapWalk.{Summed}
 use Rattle.masks.proofs.closeness.Given as goal
 
 abbrev pub invariant-loop-rest : goal.invariant-loop-rest

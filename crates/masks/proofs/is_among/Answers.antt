@@ -1,5 +1,4 @@
 -- No more than the mask of the first p slots.
-use Rattle.std.proofs.Common.{rules}
 use Rattle.masks.proofs.is_among.Goals as goal
 
 pub returns : goal.returns

@@ -1,5 +1,5 @@
 -- `masks::joined` meets its contract. Assumes nothing.
-use Rattle.std.proofs.Common.{ap, rules}
+use Rattle.std.proofs.Common.{ap}
 use lib.Bits.{bit_or}
 use Rattle.masks.proofs.joined.Goals as goal
 

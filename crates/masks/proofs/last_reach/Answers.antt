@@ -1,5 +1,5 @@
 -- `masks::last_reach` meets its contract. Assumes nothing.
-use Rattle.std.proofs.Common.{ℕ, leb, ap, rules}
+use Rattle.std.proofs.Common.{ℕ, leb, ap}
 use Rattle.masks.proofs.last_reach.Goals as goal
 
 pub returns : goal.returns

@@ -1,5 +1,4 @@
 -- `masks::trip_from` meets its contract. Assumes nothing.
-use Rattle.std.proofs.Common.{rules}
 use Rattle.masks.proofs.Borrow.{trip-has}
 use Rattle.masks.proofs.trip_from.Goals as goal
 

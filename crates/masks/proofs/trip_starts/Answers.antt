@@ -1,5 +1,4 @@
 -- `masks::trip_starts` meets its contract. Assumes nothing.
-use Rattle.std.proofs.Common.{rules}
 use Rattle.masks.proofs.Carry.{within-left}
 use Rattle.masks.proofs.TripStarts.{start_has}
 use Rattle.masks.proofs.trip_starts.Goals as goal

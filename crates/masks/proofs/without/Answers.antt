@@ -1,5 +1,5 @@
 -- `masks::without` meets its contract. Assumes nothing.
-use Rattle.std.proofs.Common.{ℕ, ap, rules}
+use Rattle.std.proofs.Common.{ℕ, ap}
 use lib.Bits.{bit_or, bit_xor}
 use Rattle.masks.proofs.without.Goals as goal
 

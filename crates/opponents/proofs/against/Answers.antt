@@ -2,7 +2,6 @@
 use mathlib.Core.Path.{◌∙◌}
 use Rattle.tables.specs.Tables.{x_of}
 use Rattle.opponents.proofs.Games.{sides-mask, union-mask, against-all}
-use borrow.Author.Rules.{rules}
 use Rattle.opponents.proofs.against.Goals as goal
 
 pub returns-then-group-everyone : goal.returns-then-group-everyone

@@ -3,7 +3,7 @@ use Prim.Native.Nat.{◌-◌, ◌*◌, ◌≤◌}
 use native.Mathlib.Omega.{arith}
 use native.Mathlib.Nat.{mul-le-mul_right}
 use Rattle.robinx.specs.Season.{most_teams}
-use Rattle.opponents.proofs.Gathered.{UnionPassed, union-start, union-turn, union-end}
+use Rattle.opponents.proofs.Gathered.{union-start, union-turn, union-end}
 use borrow.Author.Rules.{rules}
 use Rattle.opponents.proofs.gather.Goals as goal
 use Rattle.opponents.proofs.gather.Goals.{After-next-m}

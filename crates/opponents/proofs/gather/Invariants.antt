@@ -1,10 +1,7 @@
 -- `opponents::gather` meets its contract: before each turn u is the union of the words of the members passed. Assumes nothing.
-use Prim.Native.Nat.{◌-◌, ◌*◌, ◌≤◌}
-use native.Mathlib.Omega.{arith}
-use native.Mathlib.Nat.{mul-le-mul_right}
+use Prim.Native.Nat.{◌-◌}
 use Rattle.robinx.specs.Season.{most_teams}
-use Rattle.opponents.proofs.Gathered.{UnionPassed, union-start, union-turn, union-end}
-use borrow.Author.Rules.{rules}
+use Rattle.opponents.proofs.Gathered.{UnionPassed}
 use Rattle.opponents.proofs.gather.Given as goal
 
 abbrev pub invariant-loop-m : goal.invariant-loop-m

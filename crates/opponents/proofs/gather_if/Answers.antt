@@ -1,5 +1,4 @@
 -- `opponents::gather_if` meets its contract. Assumes nothing.
-use borrow.Author.Rules.{rules}
 use Rattle.robinx.proofs.Bits.{none-bit}
 use Rattle.opponents.proofs.gather_if.Goals as goal
 

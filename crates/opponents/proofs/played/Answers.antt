@@ -1,5 +1,4 @@
 -- `opponents::played` meets its contract. Assumes nothing.
-use borrow.Author.Rules.{rules}
 use Rattle.opponents.proofs.played.Goals as goal
 
 pub returns : goal.returns

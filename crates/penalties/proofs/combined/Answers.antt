@@ -2,7 +2,6 @@
 use Prim.Native.Nat.{ℕ, ◌*◌, ◌^◌, ◌<◌, ◌≤◌}
 use native.Mathlib.Omega.{arith}
 use native.Mathlib.Nat.{mul-le-mul, lt_of_le_of_lt}
-use borrow.Author.Rules.{rules}
 use borrow.Author.Tests.{ne_eqb}
 use Rattle.robinx.specs.Penalty.{combine}
 use Rattle.robinx.proofs.Bounds.{combine-le}

@@ -1,10 +1,7 @@
 -- `penalty::largest` meets its contract. Before each turn it is the function of the first i numbers. Assumes nothing.
 use mathlib.Core.Path.{refl}
-use Prim.Native.Nat.{◌-◌}
-use borrow.Author.Rules.{rules}
-use lib.ListN.{length}
 use Rattle.robinx.specs.Penalty.{largest}
-use Rattle.penalties.proofs.Folds.{Folded, folded-none, folded_more, folded-done, largest-more}
+use Rattle.penalties.proofs.Folds.{folded-none, folded_more, folded-done, largest-more}
 use Rattle.penalties.proofs.largest.Goals as goal
 
 pub loop-i-init : goal.loop-i-init

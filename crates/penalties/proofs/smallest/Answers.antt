@@ -1,12 +1,12 @@
 -- `penalty::smallest` meets its contract. Before each turn it is the function of the first i numbers. Assumes nothing.
 use mathlib.Core.Path.{refl}
-use Prim.Native.Nat.{◌-◌, ◌<◌, ◌≤◌}
+use Prim.Native.Nat.{◌<◌}
 use native.Mathlib.Omega.{arith}
 use borrow.Author.Rules.{rules}
 use lib.ListN.{length, get_or, take}
 use lib.Seq.{length-take-le}
 use Rattle.robinx.specs.Penalty.{smallest}
-use Rattle.penalties.proofs.Folds.{Folded, folded-none, folded_more, folded-done, smallest-more}
+use Rattle.penalties.proofs.Folds.{folded-none, folded_more, folded-done, smallest-more}
 use Rattle.penalties.proofs.smallest.Goals as goal
 
 pub returns-then-l-eq0 : goal.returns-then-l-eq0

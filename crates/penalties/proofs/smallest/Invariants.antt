@@ -1,12 +1,8 @@
 -- `penalty::smallest` meets its contract. Before each turn it is the function of the first i numbers. Assumes nothing.
-use mathlib.Core.Path.{refl}
-use Prim.Native.Nat.{◌-◌, ◌<◌, ◌≤◌}
-use native.Mathlib.Omega.{arith}
-use borrow.Author.Rules.{rules}
-use lib.ListN.{length, get_or, take}
-use lib.Seq.{length-take-le}
+use Prim.Native.Nat.{◌-◌, ◌≤◌}
+use lib.ListN.{length}
 use Rattle.robinx.specs.Penalty.{smallest}
-use Rattle.penalties.proofs.Folds.{Folded, folded-none, folded_more, folded-done, smallest-more}
+use Rattle.penalties.proofs.Folds.{Folded}
 use Rattle.penalties.proofs.smallest.Given as goal
 
 abbrev pub invariant-loop-i : goal.invariant-loop-i

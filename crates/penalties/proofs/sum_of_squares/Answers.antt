@@ -1,11 +1,11 @@
 -- `penalty::sum_of_squares` meets its contract. Before each turn it is the function of the first i numbers. Assumes nothing.
 use mathlib.Core.Path.{refl}
-use Prim.Native.Nat.{◌+◌, ◌*◌, ◌-◌, ◌≤◌}
+use Prim.Native.Nat.{◌+◌, ◌*◌, ◌≤◌}
 use native.Mathlib.Omega.{arith}
 use borrow.Author.Rules.{rules}
-use lib.ListN.{length, get_or, take}
+use lib.ListN.{get_or, take}
 use Rattle.robinx.specs.Penalty.{sum_of_squares}
-use Rattle.penalties.proofs.Folds.{Folded, folded-none, folded_more, folded-done, squares-more, squares-next-le}
+use Rattle.penalties.proofs.Folds.{folded-none, folded_more, folded-done, squares-more, squares-next-le}
 use Rattle.penalties.proofs.sum_of_squares.Goals as goal
 use Rattle.penalties.proofs.sum_of_squares.Goals.{After-shared_slice_known-1}
 

@@ -1,11 +1,8 @@
 -- `penalty::sum_of_squares` meets its contract. Before each turn it is the function of the first i numbers. Assumes nothing.
-use mathlib.Core.Path.{refl}
-use Prim.Native.Nat.{◌+◌, ◌*◌, ◌-◌, ◌≤◌}
-use native.Mathlib.Omega.{arith}
-use borrow.Author.Rules.{rules}
-use lib.ListN.{length, get_or, take}
+use Prim.Native.Nat.{◌-◌}
+use lib.ListN.{length}
 use Rattle.robinx.specs.Penalty.{sum_of_squares}
-use Rattle.penalties.proofs.Folds.{Folded, folded-none, folded_more, folded-done, squares-more, squares-next-le}
+use Rattle.penalties.proofs.Folds.{Folded}
 use Rattle.penalties.proofs.sum_of_squares.Given as goal
 
 abbrev pub invariant-loop-i : goal.invariant-loop-i

@@ -2,7 +2,6 @@
 use Rattle.robinx.specs.Season.{away_teams, decode}
 use native.Mathlib.Nat.{add-sub_cancel_left}
 use Rattle.reader.proofs.Read.{games-read}
-use borrow.Author.Rules.{rules}
 use Rattle.reader.proofs.aways.Goals as goal
 
 pub returns : goal.returns

@@ -1,7 +1,6 @@
 -- Heads and bodies stand in two arrays behind the games.
 use Rattle.robinx.specs.Season.{decode}
 use Rattle.reader.proofs.Read.{games-read, constraints-read}
-use borrow.Author.Rules.{rules}
 use Rattle.reader.proofs.constraint_at.Goals as goal
 
 pub returns : goal.returns

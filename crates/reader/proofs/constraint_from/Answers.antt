@@ -1,6 +1,5 @@
 -- Eight bytes of head, two words and a long one of body.
 use Rattle.robinx.specs.Season.{constraint_from}
-use borrow.Author.Rules.{rules}
 use Rattle.reader.proofs.constraint_from.Goals as goal
 
 pub returns : goal.returns

@@ -2,7 +2,6 @@
 use Rattle.robinx.specs.Season.{home_teams, decode}
 use native.Mathlib.Nat.{add-sub_cancel_left}
 use Rattle.reader.proofs.Read.{games-read}
-use borrow.Author.Rules.{rules}
 use Rattle.reader.proofs.homes.Goals as goal
 
 pub returns : goal.returns

@@ -1,6 +1,5 @@
 -- Eight bytes from two times four.
 use Rattle.reader.proofs.Numbers.{eight-bytes}
-use borrow.Author.Rules.{rules}
 use Rattle.reader.proofs.long.Goals as goal
 
 pub returns : goal.returns

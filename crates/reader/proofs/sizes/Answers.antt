@@ -1,7 +1,6 @@
 -- The sizes stand in the first six bytes.
 use Rattle.robinx.specs.Season.{teams, slots, games, constraints}
 use Rattle.reader.specs.Sizes.{sizes_of}
-use borrow.Author.Rules.{rules}
 use Rattle.reader.proofs.sizes.Goals as goal
 
 pub returns : goal.returns

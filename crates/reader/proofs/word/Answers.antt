@@ -1,6 +1,5 @@
 -- Four bytes from two times two.
 use Rattle.reader.proofs.Numbers.{four_bytes}
-use borrow.Author.Rules.{rules}
 use Rattle.reader.proofs.word.Goals as goal
 
 pub returns : goal.returns

@@ -1,5 +1,4 @@
 -- Kind 0 is set, any other is exchange. Assumes nothing.
-use borrow.Author.Rules.{rules}
 use Rattle.replay.proofs.Lists.{set-of, exchange-of}
 use Rattle.replay.proofs.make.Goals as goal
 

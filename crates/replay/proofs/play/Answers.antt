@@ -1,14 +1,8 @@
 -- The calls made so far: their outcome and their sums, whatever the opening was made on. Assumes nothing.
-use mathlib.Core.Path.{◌≡◌, refl, ◌∙◌}
-use mathlib.Core.List.{[]}
-use Prim.Native.Nat.{◌-◌, ◌≤◌}
+use mathlib.Core.Path.{refl, ◌∙◌}
 use native.Mathlib.Omega.{arith}
-use lib.ListN.{length, drop}
-use borrow.Author.Rules.{rules}
-use Rattle.robinx.specs.Calls.{Buffers, buffers}
-use Rattle.replay.specs.Play.{calls_of, Replays}
 use Rattle.replay.proofs.Lists.{calls-next, calls-end}
-use Rattle.replay.proofs.CallSteps.{plays-open, Made, none_made, one-made, all_made}
+use Rattle.replay.proofs.CallSteps.{plays-open, none_made, one-made, all_made}
 use Rattle.replay.proofs.play.Goals as goal
 
 pub loop-i-init : goal.loop-i-init

@@ -2,10 +2,6 @@
 use native.Mathlib.Omega.{arith}
 use mir.Syntax.{w64}
 use mir.ValLaws.{of_z-to_z}
-use borrow.Author.Rules.{rules}
-use Rattle.replies.proofs.accepted.Reads as reads
-use Rattle.replies.proofs.accepted.Lts as lts
-use Rattle.totals.proofs.signed.Reads as signed-Reads
 use Rattle.replies.proofs.accepted.Goals as goal
 
 pub returns : goal.returns

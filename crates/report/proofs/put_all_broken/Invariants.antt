@@ -1,15 +1,10 @@
 -- Each constraint in turn: the rows of those below c are written, at most one each.
-use mathlib.Core.Path.{◌≡◌, refl}
+use mathlib.Core.Path.{◌≡◌}
 use mathlib.Core.List.{List, [], ◌∷◌}
 use Prim.Native.Nat.{ℕ, ◌+◌, ◌-◌, ◌≤◌}
-use native.Mathlib.Omega.{arith}
 use lib.ListN.{length}
-use borrow.Author.Rules.{rules}
-use Rattle.robinx.specs.Season.{decode}
-use Rattle.reader.proofs.Read.{constraints-read}
 use Rattle.report_reply.specs.ReportReply.{TallyOf}
 use Rattle.report.specs.ReportRows.{Written, broken_of}
-use Rattle.report.proofs.Written.{none_yet, all_told, penalty-read}
 use Rattle.report.proofs.put_all_broken.Given as goal
 
 abbrev pub invariant-loop-c : goal.invariant-loop-c

@@ -1,7 +1,6 @@
 -- Three words behind the rows before.
 use native.Mathlib.Omega.{arith}
 use lib.ListN.{length-set}
-use borrow.Author.Rules.{rules}
 use Rattle.report.proofs.Written.{row_written}
 use Rattle.report.proofs.put_row.Goals as goal
 

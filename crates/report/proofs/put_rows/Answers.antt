@@ -1,7 +1,6 @@
 -- The first row from the totals behind the penalties, then those of the broken constraints.
 use mathlib.Core.List.{[]}
 use native.Mathlib.Omega.{arith}
-use borrow.Author.Rules.{rules}
 use Rattle.season.proofs.Found.{no-fault}
 use Rattle.report_reply.proofs.Sixth.{has-sizes, few_words}
 use Rattle.report.proofs.Written.{no_rows, rows_told}

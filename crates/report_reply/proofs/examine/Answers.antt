@@ -1,6 +1,5 @@
 -- The season's own sentences, then the number of deviations.
 use native.Mathlib.Omega.{arith}
-use borrow.Author.Rules.{rules}
 use Rattle.report_reply.proofs.Sixth.{one-of-five, too_many, not-too-many}
 use Rattle.report_reply.proofs.examine.Goals as goal
 

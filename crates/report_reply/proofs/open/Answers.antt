@@ -4,7 +4,6 @@ use mathlib.Core.List.{List}
 use Prim.Native.Nat.{ℕ, ◌+◌, ◌≤◌}
 use native.Mathlib.Omega.{arith}
 use lib.Seq.{length-take-le}
-use borrow.Author.Rules.{rules}
 use Rattle.robinx.specs.Season.{most_constraints, most_deviations}
 use Rattle.season.specs.declared.Examined.{Examined}
 use Rattle.report_reply.proofs.Cut.{to-its-end}

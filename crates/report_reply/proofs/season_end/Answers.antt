@@ -1,6 +1,5 @@
 -- A short input is all season; a longer one is cut at the length that its sizes give.
 use native.Mathlib.Omega.{arith}
-use borrow.Author.Rules.{rules}
 use Rattle.report_reply.proofs.Cut.{at-the-end, by-sizes, at-least-6, at-its-length}
 use Rattle.report_reply.proofs.season_end.Goals as goal
 

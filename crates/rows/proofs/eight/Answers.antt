@@ -5,7 +5,6 @@ use Prim.Native.Nat.{ℕ, ◌+◌, ◌*◌, ◌/◌, ◌%◌, ◌^◌, ◌<◌}
 use native.Mathlib.Omega.{arith}
 use lib.Bits.{bit_and, and_le_r}
 use lib.Dec.{eqb, ltb}
-use borrow.Author.Rules.{rules}
 use borrow.Author.Tests.{eqb-true, ltb-true, not-false}
 use Rattle.robinx.specs.Sums.{sum_to, any_to}
 use Rattle.robinx.proofs.Sums.{any_none, and_yes}

@@ -1,11 +1,10 @@
 -- `rows::farthest` meets its contract. Assumes nothing.
 use mathlib.Core.Path.{◌≡◌, refl}
-use Prim.Native.Nat.{◌-◌, ◌≤◌}
 use native.Mathlib.Omega.{arith}
 use native.Mathlib.Numerals.{add-one}
 use Rattle.robinx.specs.Season.{most_slots}
 use Rattle.robinx.specs.Sums.{max_to}
-use Rattle.rows.specs.Rows.{row_at, farthest_to}
+use Rattle.rows.specs.Rows.{farthest_to}
 use borrow.Author.Rules.{rules}
 use Rattle.rows.proofs.farthest.Goals as goal
 

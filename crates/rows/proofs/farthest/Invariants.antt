@@ -1,12 +1,8 @@
 -- `rows::farthest` meets its contract. Assumes nothing.
-use mathlib.Core.Path.{◌≡◌, refl}
+use mathlib.Core.Path.{◌≡◌}
 use Prim.Native.Nat.{◌-◌, ◌≤◌}
-use native.Mathlib.Omega.{arith}
-use native.Mathlib.Numerals.{add-one}
 use Rattle.robinx.specs.Season.{most_slots}
-use Rattle.robinx.specs.Sums.{max_to}
 use Rattle.rows.specs.Rows.{row_at, farthest_to}
-use borrow.Author.Rules.{rules}
 use Rattle.rows.proofs.farthest.Given as goal
 
 abbrev pub invariant-loop-k : goal.invariant-loop-k

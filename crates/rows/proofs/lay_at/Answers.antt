@@ -1,13 +1,12 @@
 -- `rows::lay_at` meets its contract: before each turn q counts the slots below k, and rest is what is left of the mask. Assumes nothing.
 use mathlib.Core.Path.{◌≡◌, refl, sym, ap, ◌∙◌}
 use mathlib.Core.List.{List}
-use Prim.Native.Nat.{ℕ, ◌+◌, ◌-◌, ◌*◌, ◌/◌, ◌%◌, ◌^◌, ◌≤◌}
+use Prim.Native.Nat.{ℕ, ◌+◌, ◌*◌, ◌/◌, ◌^◌, ◌≤◌}
 use native.Mathlib.Omega.{arith}
 use native.Mathlib.Nat.{div-one}
 use lib.Pow.{shr-shr}
 use Rattle.robinx.specs.Season.{most_slots}
 use Rattle.robinx.specs.Sums.{sum_to}
-use Rattle.robinx.specs.Groups.{bit}
 use Rattle.rows.specs.Rows.{up_to, laid_at, byte}
 use Rattle.rows.proofs.Rows.{laid_at-on}
 use Rattle.rows.proofs.Bytes.{count-le, Counts, counted, counts-fit, counts-byte, counts-last}

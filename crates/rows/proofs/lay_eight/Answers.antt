@@ -1,6 +1,5 @@
 -- `rows::lay_eight` meets its contract. Assumes nothing.
 use mathlib.Core.Path.{◌≡◌, refl}
-use Prim.Native.Nat.{◌-◌, ◌≤◌}
 use native.Mathlib.Omega.{arith}
 use Rattle.rows.specs.Rows.{laid_at, byte}
 use Rattle.rows.proofs.Rows.{laid_at-more}

@@ -1,10 +1,7 @@
 -- `rows::lay_eight` meets its contract. Assumes nothing.
-use mathlib.Core.Path.{◌≡◌, refl}
+use mathlib.Core.Path.{◌≡◌}
 use Prim.Native.Nat.{◌-◌, ◌≤◌}
-use native.Mathlib.Omega.{arith}
 use Rattle.rows.specs.Rows.{laid_at, byte}
-use Rattle.rows.proofs.Rows.{laid_at-more}
-use borrow.Author.Rules.{rules}
 use Rattle.rows.proofs.lay_eight.Given as goal
 
 abbrev pub invariant-loop-j : goal.invariant-loop-j

@@ -1,11 +1,7 @@
 -- `rows::runs` meets its contract. Assumes nothing.
-use mathlib.Core.Path.{◌≡◌, refl}
+use mathlib.Core.Path.{◌≡◌}
 use Prim.Native.Nat.{◌-◌, ◌*◌, ◌≤◌}
-use native.Mathlib.Omega.{arith}
-use native.Mathlib.Numerals.{add-one}
-use Rattle.robinx.specs.Sums.{sum_to}
 use Rattle.rows.specs.Rows.{runs_to}
-use borrow.Author.Rules.{rules}
 use Rattle.rows.proofs.runs.Given as goal
 
 abbrev pub invariant-loop-k : goal.invariant-loop-k

@@ -1,6 +1,6 @@
 -- `rows::spread` meets its contract. Assumes nothing.
 use mathlib.Core.Path.{◌≡◌, refl, ap}
-use Prim.Native.Nat.{ℕ, ◌-◌, ◌*◌, ◌≤◌}
+use Prim.Native.Nat.{ℕ, ◌*◌}
 use native.Mathlib.Omega.{arith}
 use Rattle.robinx.specs.Season.{most_slots}
 use Rattle.rows.specs.Rows.{marked, laid}

@@ -1,11 +1,8 @@
 -- `rows::spread` meets its contract. Assumes nothing.
-use mathlib.Core.Path.{◌≡◌, refl, ap}
-use Prim.Native.Nat.{ℕ, ◌-◌, ◌*◌, ◌≤◌}
-use native.Mathlib.Omega.{arith}
+use mathlib.Core.Path.{◌≡◌}
+use Prim.Native.Nat.{◌-◌, ◌≤◌}
 use Rattle.robinx.specs.Season.{most_slots}
 use Rattle.rows.specs.Rows.{marked, laid}
-use Rattle.rows.proofs.Rows.{laid_more}
-use borrow.Author.Rules.{rules}
 use Rattle.rows.proofs.spread.Given as goal
 
 abbrev pub invariant-loop-k : goal.invariant-loop-k

@@ -1,5 +1,4 @@
 -- A field by what its row asks.
-use borrow.Author.Rules.{rules}
 use Rattle.rules.proofs.asks.Goals as goal
 
 pub returns-in-Zero : goal.returns-in-Zero

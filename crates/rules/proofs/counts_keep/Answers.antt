@@ -1,6 +1,5 @@
 -- The tests of kmin, kmax and w.
 use Rattle.rules.specs.CountedBits.{counts_keep}
-use borrow.Author.Rules.{rules}
 use Rattle.rules.proofs.counts_keep.Goals as goal
 
 pub returns : goal.returns

@@ -1,6 +1,5 @@
 -- The tests of T1, T2 and S.
 use Rattle.rules.specs.CountedBits.{groups_keep}
-use borrow.Author.Rules.{rules}
 use Rattle.rules.proofs.groups_keep.Goals as goal
 
 pub returns : goal.returns

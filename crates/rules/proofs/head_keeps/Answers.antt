@@ -1,6 +1,5 @@
 -- The tests of mode, hard, function and weight.
 use Rattle.rules.specs.CountedBits.{head_keeps}
-use borrow.Author.Rules.{rules}
 use Rattle.rules.proofs.head_keeps.Goals as goal
 
 pub returns : goal.returns

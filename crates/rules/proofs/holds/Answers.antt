@@ -1,5 +1,4 @@
 -- What the row asks, and the largest value.
-use borrow.Author.Rules.{rules}
 use Rattle.rules.proofs.holds.Goals as goal
 
 pub returns : goal.returns

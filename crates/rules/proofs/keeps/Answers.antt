@@ -1,6 +1,5 @@
 -- Whole from its four parts.
 use Rattle.rules.proofs.Members.{keeps-counted}
-use borrow.Author.Rules.{rules}
 use Rattle.rules.proofs.keeps.Goals as goal
 
 pub returns : goal.returns

@@ -1,6 +1,5 @@
 -- By the number of set bits.
 use Rattle.rules.specs.CountedBits.{several_keep}
-use borrow.Author.Rules.{rules}
 use Rattle.rules.proofs.several_keep.Goals as goal
 
 pub returns-then-several : goal.returns-then-several

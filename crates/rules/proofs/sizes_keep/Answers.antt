@@ -1,6 +1,5 @@
 -- By the number of set bits.
 use Rattle.rules.specs.CountedBits.{sizes_keep}
-use borrow.Author.Rules.{rules}
 use Rattle.rules.proofs.sizes_keep.Goals as goal
 
 pub returns : goal.returns

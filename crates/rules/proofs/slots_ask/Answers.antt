@@ -1,5 +1,4 @@
 -- S by what the row asks.
-use borrow.Author.Rules.{rules}
 use Rattle.rules.proofs.slots_ask.Goals as goal
 
 pub returns-in-Zero : goal.returns-in-Zero

@@ -1,5 +1,4 @@
 -- What the row asks of S, and no slot after the last.
-use borrow.Author.Rules.{rules}
 use Rattle.rules.proofs.slots_hold.Goals as goal
 
 pub returns : goal.returns

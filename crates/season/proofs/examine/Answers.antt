@@ -1,9 +1,6 @@
 -- Each sentence is false where its test is left; the first that is taken gives its number.
 use mathlib.Core.Path.{◌≡◌, sym, ◌∙◌}
 use mathlib.Core.Bool.{false}
-use mathlib.Core.List.{List}
-use Prim.Native.Nat.{ℕ}
-use borrow.Author.Rules.{rules}
 use borrow.Author.Tests.{lt-ltb, le-ltb}
 use Rattle.robinx.specs.Season.{decode}
 use Rattle.robinx.specs.Refusals.{sentence1, sentence2, sentence3}

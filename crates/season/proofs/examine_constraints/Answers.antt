@@ -1,5 +1,5 @@
 -- A turn passes one more constraint. Assumes nothing.
-use Rattle.std.proofs.Common.{◌≡◌, Bool, true, ◌&&◌, refl, sym, ap, ◌∙◌, ◌<◌, arith, rules}
+use Rattle.std.proofs.Common.{◌≡◌, ◌∙◌, ◌<◌, arith}
 use borrow.Author.Tests.{ltb-true, eqb-true}
 use lib.Dec.{ltb, eqb}
 use Rattle.robinx.specs.Season.{decode}
@@ -27,8 +27,8 @@ pub examine_next-x-requires : goal.examine_next-x-requires
 examine_next-x-requires c =
     let t = (goal.at.examine_next-x-requires c).In-loop-r in
     let p =
-        passed-small c.args.season.now c.args.z c.requires.0 (in-range c.args.z c.requires.1) c.loop-r.r.at c.loop-r.x (below t) (unrefused t)
-        c.loop-r.invariant.passed
+    passed-small c.args.season.now c.args.z c.requires.0 (in-range c.args.z c.requires.1) c.loop-r.r.at c.loop-r.x (below t) (unrefused t)
+    c.loop-r.invariant.passed
     in
     (p.0 ∙ c.requires.1, p.1)
 

@@ -1,8 +1,6 @@
 -- By the answer of the rules.
 use mathlib.Core.Path.{sym, ◌∙◌}
 use native.Mathlib.Omega.{arith}
-use borrow.Author.Rules.{rules}
-use borrow.Author.Tests.{not-true, not-false}
 use Rattle.reader.proofs.Read.{SizesInRange, in-range}
 use Rattle.season.proofs.Pass.{ones_small}
 use Rattle.season.proofs.examine_next.Goals as goal

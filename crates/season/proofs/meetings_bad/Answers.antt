@@ -2,7 +2,6 @@
 use mathlib.Core.Path.{◌∙◌}
 use Rattle.reader.proofs.Read.{teams-read, in-range, right-length, as_many}
 use Rattle.games.proofs.Meetings.{games-alone}
-use borrow.Author.Rules.{rules}
 use Rattle.season.proofs.meetings_bad.Goals as goal
 
 pub games_bad-requires : goal.games_bad-requires

@@ -1,10 +1,8 @@
 -- `separation::fill_row` meets its contract. Before each turn the pairs with the members passed are in. Assumes nothing.
 use mathlib.Core.Path.{sym, ◌∙◌}
-use Prim.Native.Nat.{◌-◌, ◌<◌}
+use Prim.Native.Nat.{◌<◌}
 use lib.ListN.{length}
-use Rattle.tables.specs.Tables.{x_of}
-use Rattle.separation.specs.Closeness.{closeness}
-use Rattle.groups.proofs.MemberWalk.{RowPassed, row-start, row-place, row-turn, row-end}
+use Rattle.groups.proofs.MemberWalk.{row-start, row-place, row-turn, row-end}
 use borrow.Author.Rules.{rules}
 use Rattle.separation.proofs.fill_row.Goals as goal
 use Rattle.separation.proofs.fill_row.Goals.{After-pair_closeness}

@@ -1,14 +1,11 @@
 -- `separation::fill_separation` meets its contract. Before each turn the pairs whose lower member is passed are in. Assumes nothing.
 use mathlib.Core.Path.{◌≡◌, sym, ap, ◌∙◌}
-use Prim.Native.Nat.{◌-◌}
 use lib.ListN.{length}
 use Rattle.robinx.specs.Groups.{pairs}
 use Rattle.robinx.specs.Kinds.{kind_of, form_of}
 use Rattle.robinx.specs.Deviations.{dev_se1}
-use Rattle.tables.specs.Tables.{x_of}
-use Rattle.separation.specs.Closeness.{closeness}
 use Rattle.opponents.proofs.Fillable.{limits, places_of}
-use Rattle.groups.proofs.MemberWalk.{RowsPassed, rows_start, rows-place, rows-turn, rows_end}
+use Rattle.groups.proofs.MemberWalk.{rows_start, rows-place, rows-turn, rows_end}
 use borrow.Author.Rules.{rules}
 use Rattle.separation.proofs.fill_separation.Goals as goal
 use Rattle.separation.proofs.fill_separation.Goals.{Start}

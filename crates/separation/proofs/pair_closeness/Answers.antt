@@ -1,5 +1,4 @@
 -- `separation::pair_closeness` meets its contract. Assumes nothing.
-use borrow.Author.Rules.{rules}
 use Rattle.separation.proofs.PairMeetings.{pair-close}
 use Rattle.separation.proofs.pair_closeness.Goals as goal
 

@@ -1,7 +1,6 @@
 -- Sentences 9 and 10, then the tables. Assumes nothing.
 use Prim.Native.Nat.{◌<◌, ◌≤◌}
 use native.Mathlib.Omega.{arith}
-use borrow.Author.Rules.{rules}
 use Rattle.robinx.specs.Season.{decode}
 use Rattle.robinx.specs.Calls.{buffers}
 use Rattle.calls.proofs.CallNumbers.{set-refused, set-passes}

@@ -1,15 +1,11 @@
 -- Before turn i none of the first i words of the half is another one. Assumes nothing.
-use mathlib.Core.Path.{◌≡◌, refl, sym, ap, ap₂, ◌∙◌}
-use mathlib.Core.Bool.{false, ◌||◌, not}
+use mathlib.Core.Path.{◌≡◌}
+use mathlib.Core.Bool.{false, not}
 use Prim.Native.Nat.{◌+◌, ◌-◌, ◌≤◌}
-use native.Mathlib.Omega.{arith}
 use lib.Dec.{eqb}
 use lib.ListN.{get_or}
 use Rattle.robinx.specs.Season.{most_teams}
 use Rattle.robinx.specs.Sums.{any_to}
-use Rattle.robinx.proofs.Sums.{any_step, any_some}
-use borrow.Author.Rules.{rules}
-use borrow.Author.Tests.{eq-eqb, ne_eqb}
 use Rattle.summary.proofs.half_differs.Given as goal
 
 abbrev pub invariant-loop-i : goal.invariant-loop-i

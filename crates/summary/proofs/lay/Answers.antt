@@ -1,5 +1,4 @@
 -- One half after the other. Assumes nothing.
-use borrow.Author.Rules.{rules}
 use Rattle.summary.proofs.Words.{two-halves-are-the-words}
 use Rattle.summary.proofs.lay.Goals as goal
 

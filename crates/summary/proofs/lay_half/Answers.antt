@@ -1,9 +1,8 @@
 -- Before turn t the first t words of the half are written. Assumes nothing.
 use mathlib.Core.Path.{◌≡◌, refl}
-use Prim.Native.Nat.{◌-◌, ◌≤◌}
 use native.Mathlib.Omega.{arith}
 use native.Mathlib.Numerals.{add-one}
-use lib.ListN.{length, length-set}
+use lib.ListN.{length-set}
 use Rattle.robinx.specs.Season.{most_teams}
 use Rattle.summary.specs.PatternWords.{with_half}
 use borrow.Author.Rules.{rules}

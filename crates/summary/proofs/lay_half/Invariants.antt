@@ -1,12 +1,9 @@
 -- Before turn t the first t words of the half are written. Assumes nothing.
-use mathlib.Core.Path.{◌≡◌, refl}
+use mathlib.Core.Path.{◌≡◌}
 use Prim.Native.Nat.{◌-◌, ◌≤◌}
-use native.Mathlib.Omega.{arith}
-use native.Mathlib.Numerals.{add-one}
-use lib.ListN.{length, length-set}
+use lib.ListN.{length}
 use Rattle.robinx.specs.Season.{most_teams}
 use Rattle.summary.specs.PatternWords.{with_half}
-use borrow.Author.Rules.{rules}
 use Rattle.summary.proofs.lay_half.Given as goal
 
 abbrev pub invariant-loop-t : goal.invariant-loop-t

@@ -3,7 +3,6 @@ use mathlib.Core.Path.{ap, ◌∙◌}
 use native.Mathlib.Omega.{arith}
 use lib.ListN.{length, get_or, length-set}
 use Rattle.summary.specs.PatternWords.{with_team}
-use borrow.Author.Rules.{rules}
 use Rattle.summary.proofs.write_game.Goals as goal
 
 pub overflow_cast-homes : goal.overflow_cast-homes
@@ -11,7 +10,7 @@ overflow_cast-homes c = omega (arith, c.shared_slice_known-3-1.given c.args.g)
 
 pub write_team-requires : goal.write_team-requires
 write_team-requires c =
-    let pre = c.requires in (pre.0.home_below _ pre.1, pre.2)
+    let pre = c.requires in (pre.0.home-below _ pre.1, pre.2)
 
 pub overflow_cast-aways : goal.overflow_cast-aways
 overflow_cast-aways c = omega (arith, c.shared_slice_known-4-1.given c.args.g)

@@ -1,7 +1,6 @@
 -- The home word, then the away word. Assumes nothing.
 use native.Mathlib.Omega.{arith}
 use lib.ListN.{length-set}
-use borrow.Author.Rules.{rules}
 use Rattle.summary.proofs.write_team.Goals as goal
 
 pub bounds-summary-t-2 : goal.bounds-summary-t-2

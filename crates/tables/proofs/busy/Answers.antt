@@ -1,7 +1,6 @@
 -- A team is busy in a slot when its home or its away mask has it. Assumes nothing.
 use mathlib.Core.Path.{ap₂, ◌∙◌}
 use mathlib.Core.Bool.{◌||◌}
-use borrow.Author.Rules.{rules}
 use Rattle.tables.proofs.busy.Goals as goal
 
 pub returns : goal.returns

@@ -1,5 +1,4 @@
 -- A game is taken out of all three tables. Assumes nothing.
-use borrow.Author.Rules.{rules}
 use Rattle.tables.proofs.lift.Goals as goal
 
 pub returns : goal.returns

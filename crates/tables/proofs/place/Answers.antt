@@ -1,7 +1,6 @@
 -- A game is put into all three tables, or one of its teams is busy and nothing changes. Assumes nothing.
 use mathlib.Core.Path.{refl, sym, ap, ap₂, ◌∙◌}
 use mathlib.Core.Bool.{not, ◌||◌}
-use borrow.Author.Rules.{rules}
 use Rattle.tables.proofs.place.Goals as goal
 
 pub returns-then-either : goal.returns-then-either

@@ -1,12 +1,8 @@
 -- Before turn g the first g games are placed and fit. Assumes nothing.
-use Prim.Native.Nat.{◌+◌, ◌-◌}
+use Prim.Native.Nat.{◌+◌}
 use native.Mathlib.Omega.{arith}
-use borrow.Author.Rules.{rules}
-use borrow.Author.Tests.{not-true, not-false}
-use lib.ListN.{length}
-use Rattle.tables.specs.Tables.{tables}
 use Rattle.timetable.proofs.FirstGames.{unplaced-next, unplaced-low}
-use Rattle.timetable.proofs.BuildTurns.{Begun, none_yet, ends_above, ends-busy, next-turn, ends-whole}
+use Rattle.timetable.proofs.BuildTurns.{none_yet, ends_above, ends-busy, next-turn, ends-whole}
 use Rattle.timetable.proofs.build.Goals as goal
 
 pub loop-g-init : goal.loop-g-init

@@ -9,7 +9,7 @@ pub returns-then-b-eq0 : goal.returns-then-b-eq0
 returns-then-b-eq0 c = rw c.if-b-eq0.true (record { answer = refl; after = refl })
 
 pub overflow_cast-homes : goal.overflow_cast-homes
-overflow_cast-homes c = let pre = c.requires in omega (arith, pre.0.home_below _ pre.1)
+overflow_cast-homes c = let pre = c.requires in omega (arith, pre.0.home-below _ pre.1)
 
 pub overflow_cast-aways : goal.overflow_cast-aways
 overflow_cast-aways c = let pre = c.requires in omega (arith, pre.0.away-below _ pre.1)
@@ -17,7 +17,7 @@ overflow_cast-aways c = let pre = c.requires in omega (arith, pre.0.away-below _
 pub place-requires : goal.place-requires
 place-requires c =
     let pre = c.requires in
-    (pre.0.home_below _ pre.1, pre.0.away-below _ pre.1, search rules)
+    (pre.0.home-below _ pre.1, pre.0.away-below _ pre.1, search rules)
 
 pub returns : goal.returns
 returns c =

@@ -1,6 +1,5 @@
 -- Lifted and put: the two steps of Steps, one after the other. Assumes nothing.
 use Rattle.timetable.proofs.TableSteps.{fits-reslotted}
-use borrow.Author.Rules.{rules}
 use Rattle.timetable.proofs.reslot.Goals as goal
 
 pub take_out-requires : goal.take_out-requires

@@ -1,7 +1,6 @@
 -- Lifted, lifted, put, put: the four steps of Steps, one after the other. Assumes nothing.
 use native.Mathlib.Omega.{arith}
 use Rattle.timetable.proofs.TableSteps.{fits-swapped}
-use borrow.Author.Rules.{rules}
 use Rattle.timetable.proofs.swap.Goals as goal
 
 pub take_out-requires : goal.take_out-requires

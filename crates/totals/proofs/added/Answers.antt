@@ -1,5 +1,5 @@
 -- To the hard total or to the soft one; the other stays, and is below 2^64.
-use Rattle.std.proofs.Common.{arith, rules, eq-eqb, ne_eqb}
+use Rattle.std.proofs.Common.{arith, eq-eqb, ne_eqb}
 use Rattle.totals.proofs.added.Goals as goal
 
 pub returns-then-hard-eq1 : goal.returns-then-hard-eq1

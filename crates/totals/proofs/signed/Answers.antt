@@ -1,5 +1,5 @@
 -- From 2^63 on a number stands for itself less 2^64.
-use Rattle.std.proofs.Common.{◌≡◌, suc, ◌-◌, ◌^◌, ◌<◌, arith, rules, lt-ltb}
+use Rattle.std.proofs.Common.{◌≡◌, suc, ◌-◌, ◌^◌, ◌<◌, arith, lt-ltb}
 use Rattle.totals.proofs.RunningTotals.{minus-one-less}
 use Rattle.totals.proofs.signed.Goals as goal
 

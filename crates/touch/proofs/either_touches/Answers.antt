@@ -1,5 +1,4 @@
 -- One move or the other.
-use borrow.Author.Rules.{rules}
 use Rattle.touch.proofs.either_touches.Goals as goal
 
 pub returns-then-touches : goal.returns-then-touches

@@ -1,7 +1,6 @@
 -- A group that has none of T1, and a row that asks for one.
 use mathlib.Core.Bool.{true≢false}
 use mathlib.Core.Path.{sym}
-use borrow.Author.Rules.{rules}
 use Rattle.touch.proofs.Teams.{passed_over}
 use Rattle.touch.proofs.passed_over.Goals as goal
 

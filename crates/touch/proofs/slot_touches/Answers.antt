@@ -2,11 +2,6 @@
 use mathlib.Core.Path.{sym}
 use Rattle.robinx.specs.Touch.{slot_touches}
 use Rattle.touch.proofs.Asked.{at_none, at_some}
-use borrow.Author.Rules.{rules}
-use Rattle.touch.proofs.slot_touches.Reads as reads
-use Rattle.touch.proofs.slot_touches.Lts as lts
-use Rattle.masks.proofs.is_in.Reads as is-in-reads
-use Rattle.masks.proofs.last_reach.Reads as last-reach-reads
 use Rattle.touch.proofs.slot_touches.Goals as goal
 
 pub returns-then-b-eq0 : goal.returns-then-b-eq0

@@ -1,6 +1,5 @@
 -- Each team has its group in the union.
 use Rattle.touch.proofs.Teams.{of-both}
-use borrow.Author.Rules.{rules}
 use Rattle.touch.proofs.teams_of.Goals as goal
 
 pub returns : goal.returns

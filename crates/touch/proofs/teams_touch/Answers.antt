@@ -1,6 +1,5 @@
 -- The teams by what the row asks of them.
 use Rattle.robinx.specs.Touch.{teams_touch}
-use borrow.Author.Rules.{rules}
 use Rattle.touch.proofs.teams_touch.Goals as goal
 
 pub returns-in-Nobody : goal.returns-in-Nobody

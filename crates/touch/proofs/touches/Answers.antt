@@ -1,6 +1,5 @@
 -- Two different slots, teams that are asked for, and a slot that is.
 use borrow.Author.Tests.{eq-eqb, ne_eqb}
-use borrow.Author.Rules.{rules}
 use Rattle.touch.specs.Touched.{by_row}
 use Rattle.touch.proofs.touches.Goals as goal
 

@@ -1,14 +1,12 @@
 -- `trips::fill_trips` meets its contract: before each turn the deviations of the teams passed are in. Assumes nothing.
 use mathlib.Core.Path.{◌≡◌, sym, ◌∙◌}
-use Prim.Native.Nat.{◌-◌, ◌<◌}
+use Prim.Native.Nat.{◌<◌}
 use lib.ListN.{length}
 use borrow.Author.Rules.{rules}
 use Rattle.robinx.specs.Season.{most_teams}
 use Rattle.robinx.specs.Groups.{size}
-use Rattle.tables.specs.Tables.{x_of}
 use Rattle.opponents.proofs.Fillable.{limits, given-t2}
-use Rattle.groups.proofs.MemberWalk.{EachPassed, each_start, each-place, each-few, each_turn, each-end}
-use Rattle.trips.specs.TripFigures.{trip_figure}
+use Rattle.groups.proofs.MemberWalk.{each_start, each-place, each-few, each_turn, each-end}
 use Rattle.trips.proofs.TeamTrips.{trip-places, trip-deviations}
 use Rattle.trips.proofs.fill_trips.Goals as goal
 use Rattle.trips.proofs.fill_trips.Goals.{After-team_figure, Start}

@@ -1,15 +1,8 @@
 -- `trips::fill_trips` meets its contract: before each turn the deviations of the teams passed are in. Assumes nothing.
-use mathlib.Core.Path.{◌≡◌, sym, ◌∙◌}
-use Prim.Native.Nat.{◌-◌, ◌<◌}
-use lib.ListN.{length}
-use borrow.Author.Rules.{rules}
-use Rattle.robinx.specs.Season.{most_teams}
-use Rattle.robinx.specs.Groups.{size}
+use Prim.Native.Nat.{◌-◌}
 use Rattle.tables.specs.Tables.{x_of}
-use Rattle.opponents.proofs.Fillable.{limits, given-t2}
-use Rattle.groups.proofs.MemberWalk.{EachPassed, each_start, each-place, each-few, each_turn, each-end}
+use Rattle.groups.proofs.MemberWalk.{EachPassed}
 use Rattle.trips.specs.TripFigures.{trip_figure}
-use Rattle.trips.proofs.TeamTrips.{trip-places, trip-deviations}
 use Rattle.trips.proofs.fill_trips.Given as goal
 
 abbrev pub invariant-loop-m : goal.invariant-loop-m

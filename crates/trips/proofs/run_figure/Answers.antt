@@ -1,6 +1,5 @@
 -- `trips::run_figure` meets its contract. Assumes nothing.
 use mathlib.Core.Path.{refl}
-use borrow.Author.Rules.{rules}
 use Rattle.trips.proofs.Runs.{run-adds}
 use Rattle.trips.proofs.run_figure.Goals as goal
 

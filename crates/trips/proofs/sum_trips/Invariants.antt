@@ -1,15 +1,9 @@
 -- `trips::sum_trips` meets its contract: before each turn the sum and what is left to add make the whole. Assumes nothing.
-use mathlib.Core.Path.{◌≡◌, sym, ◌∙◌}
-use Prim.Native.Nat.{ℕ, ◌+◌}
-use native.Mathlib.Omega.{arith}
-use native.Mathlib.Nat.{zero-add}
-use borrow.Author.Rules.{rules}
-use borrow.Author.Tests.{leb-true, leb-false}
+use mathlib.Core.Path.{◌≡◌}
+use Prim.Native.Nat.{◌+◌}
 use Rattle.robinx.specs.Season.{most_slots}
 use Rattle.robinx.specs.Deviations.{over}
-use Rattle.masks.proofs.OneFewer.{over_none, over-one-fewer}
 use Rattle.trips.specs.TripFigures.{of_run, of_masks}
-use Rattle.trips.proofs.Runs.{all_runs, runs-small}
 use Rattle.trips.proofs.sum_trips.Given as goal
 
 abbrev pub invariant-loop-c : goal.invariant-loop-c

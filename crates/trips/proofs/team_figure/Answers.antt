@@ -1,7 +1,6 @@
 -- `trips::team_figure` meets its contract. Assumes nothing.
 use mathlib.Core.Path.{◌≡◌, ap, ◌∙◌}
 use Prim.Native.Nat.{ℕ}
-use borrow.Author.Rules.{rules}
 use Rattle.robinx.specs.Deviations.{trips, trip_games}
 use Rattle.tables.specs.Tables.{x_of}
 use Rattle.trips.specs.TripFigures.{of_trip, of_team}

@@ -1,6 +1,5 @@
 -- No move is possible, and its teams are in their group.
 use mathlib.Core.Path.{refl}
-use borrow.Author.Rules.{rules}
 use Rattle.touch.proofs.Asked.{none-possible}
 use Rattle.walk.proofs.everything.Goals as goal
 

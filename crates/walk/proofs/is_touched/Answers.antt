@@ -1,6 +1,5 @@
 -- All, or what a move touches. No move touches a constraint that is passed over.
 use Rattle.touch.proofs.Asked.{by_row_lem, not-touched}
-use borrow.Author.Rules.{rules}
 use Rattle.walk.proofs.is_touched.Goals as goal
 
 pub returns-then-touch : goal.returns-then-touch

@@ -1,6 +1,5 @@
 -- A filled stretch is small, so its penalty fits.
 use Rattle.walk.proofs.WalkTurns.{small}
-use borrow.Author.Rules.{rules}
 use Rattle.walk.proofs.price.Goals as goal
 
 pub penalty-requires : goal.penalty-requires

@@ -1,5 +1,4 @@
 -- The stretch is priced, and the price is entered.
-use borrow.Author.Rules.{rules}
 use Rattle.walk.proofs.renew.Goals as goal
 
 pub returns : goal.returns

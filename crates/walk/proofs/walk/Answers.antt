@@ -1,10 +1,9 @@
 -- Every turn lends out the stretch of a touched constraint, or writes nothing.
 use mathlib.Core.Path.{refl, sym, ◌∙◌}
-use Prim.Native.Nat.{◌-◌, ◌≤◌}
 use native.Mathlib.Omega.{arith}
 use borrow.Author.Rules.{rules}
 use Rattle.tables.specs.Tables.{tables}
-use Rattle.walk.proofs.WalkTurns.{Walk, WalkTurn, turn, all, ranges}
+use Rattle.walk.proofs.WalkTurns.{WalkTurn, turn, all, ranges}
 use Rattle.walk.proofs.Walked.{walked_none, walked-done}
 use Rattle.walk.proofs.walk.Goals as goal
 use Rattle.walk.proofs.walk.Goals.{After-entries_of, then-is_touched, else-is_touched}

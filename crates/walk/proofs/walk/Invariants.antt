@@ -1,12 +1,6 @@
 -- Every turn lends out the stretch of a touched constraint, or writes nothing.
-use mathlib.Core.Path.{refl, sym, ◌∙◌}
-use mathlib.Core.Logic.{⊎_elim}
 use Prim.Native.Nat.{◌-◌, ◌≤◌}
-use native.Mathlib.Omega.{arith}
-use borrow.Author.Rules.{rules}
-use Rattle.tables.specs.Tables.{tables}
-use Rattle.walk.proofs.WalkTurns.{Walk, WalkTurn, turn, all, ranges}
-use Rattle.walk.proofs.Walked.{walked_none, walked-done}
+use Rattle.walk.proofs.WalkTurns.{Walk}
 use Rattle.walk.proofs.walk.Given as goal
 
 abbrev pub invariant-loop-k : goal.invariant-loop-k

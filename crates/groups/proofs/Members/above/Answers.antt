@@ -1,7 +1,6 @@
 -- `groups::Members::above` meets its contract. Assumes nothing.
 use mathlib.Core.Path.{refl}
 use lib.Pow.{shr-shr}
-use borrow.Author.Rules.{rules}
 use Rattle.groups.proofs.Members.above.Goals as goal
 
 pub returns : goal.returns

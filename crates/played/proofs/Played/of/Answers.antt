@@ -1,5 +1,4 @@
 -- The first reply's changes are the sums. Assumes nothing.
-use Rattle.std.proofs.Common.{rules}
 use Rattle.played.proofs.Words.{read_back}
 use Rattle.played.proofs.ReplyList.{begun-is}
 use Rattle.played.proofs.Played.of.Goals as goal

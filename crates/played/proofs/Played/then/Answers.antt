@@ -1,5 +1,4 @@
 -- The next reply's changes are added. Assumes nothing.
-use Rattle.std.proofs.Common.{rules}
 use Rattle.played.proofs.Words.{read_back}
 use Rattle.played.proofs.ReplyList.{with-is}
 use Rattle.played.proofs.Played.then.Goals as goal
