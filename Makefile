@@ -13,7 +13,9 @@ MAJOR := $(firstword $(subst ., ,$(VERSION)))
 
 LIBRARY = target/libseason_checker.a
 SHARED = target/libseason_checker.so
-SOURCES = crates.txt $(shell find crates -name must-fail -prune -o -type f -print)
+ARCHIVE = target/staticlib/libchecker_c.a
+# What is proved: no edit that has to fail, and nothing of what rt keeps beside it.
+SOURCES = crates.txt $(shell find crates \( -name must-fail -o -name out \) -prune -o -type f -print)
 INCLUDE = $(DESTDIR)$(PREFIX)/include
 LIB = $(DESTDIR)$(PREFIX)/lib
 
@@ -27,12 +29,12 @@ help:
 	@echo 'make console text         target/console (examples/console.c), target/season-text (docs/TEXT.md)'
 	@echo 'make host-test            the tests of what the proof does not cover; .ci/run runs all tests'
 	@echo 'make bench                docs/BENCHMARKS.md'
-	@echo 'make clean                removes target/, so that everything is proved and built again'
+	@echo 'make clean                removes target/ and what rt keeps in crates/*/out, so that everything is proved and built again'
 	@echo 'PROVED=FILE               takes a ready archive and proves nothing; PROVED_REPORT=FILE the same for the program season_report'
 	@echo 'Needs rt (the Rattle toolchain), make and cc; cargo for text, host-test and bench. For x86-64 only.'
 
-target/staticlib/libchecker.a: $(SOURCES)
-	host/prove.sh checker
+$(ARCHIVE): $(SOURCES)
+	host/prove.sh checker_c
 
 ifdef PROVED_REPORT
 target/bin/season_report: FORCE
@@ -51,7 +53,7 @@ $(LIBRARY): FORCE
 	@mkdir -p target
 	@cmp -s "$(PROVED)" $@ || cp "$(PROVED)" $@
 else
-$(LIBRARY): target/staticlib/libchecker.a FORCE
+$(LIBRARY): $(ARCHIVE) FORCE
 	@cmp -s $< $@ || cp $< $@
 endif
 
@@ -91,7 +93,7 @@ bench: $(LIBRARY)
 	bench/run.sh
 
 clean:
-	rm -rf target
+	rm -rf target crates/*/out
 
 FORCE:
 

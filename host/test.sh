@@ -10,6 +10,9 @@ set -eu
 cd "$(dirname "$0")/.."
 root=$(pwd)
 work=$root/target/host
+# What has links in it stands outside the checkout: rt ci takes none there.
+outside=$(mktemp -d)
+trap 'rm -rf "$outside"' EXIT
 export CARGO_TARGET_DIR="$root/target/cargo"
 CC=${CC:-cc}
 mkdir -p "$work"
@@ -46,7 +49,7 @@ both() {
     [ "$status" -eq 0 ] || exit 1
 }
 # An interrupt does not reach what runs in the background.
-trap 'trap - TERM; kill 0' INT
+trap 'rm -rf "$outside"; trap - TERM; kill 0' INT
 
 strict='-Wall -Wextra -Wpedantic -Wconversion -Wsign-conversion -Werror'
 tests() { cargo test --offline --quiet --profile checked --manifest-path host/Cargo.toml "$@"; }
@@ -110,8 +113,7 @@ example() {
 
 installed() {
     step installed files
-    prefix="$work/a prefix"
-    rm -rf "$prefix"
+    prefix="$outside/a prefix"
     make -s install PREFIX="$prefix"
     if has pkg-config; then
         export PKG_CONFIG_PATH="$prefix/lib/pkgconfig"

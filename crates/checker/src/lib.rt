@@ -8,8 +8,7 @@ ghost use Rattle.robinx.specs.Calls.{buffers, outcome, open_call, set_call, exch
 use robinx::{Reply, Season, Slots};
 
 // Checks a proposed sheet and fills ledger and tally.
-#[unsafe(no_mangle)]
-pub extern "C" fn season_open(
+pub fn season_open(
     season: &[u8],
     sheet: &[u8],
     ledger: &mut [u32],
@@ -33,8 +32,7 @@ pub extern "C" fn season_open(
 }
 
 // Gives a game a slot; slot 0 takes it out.
-#[unsafe(no_mangle)]
-pub extern "C" fn season_set(
+pub fn season_set(
     season: &[u8],
     sheet: &mut [u8],
     ledger: &mut [u32],
@@ -61,8 +59,7 @@ pub extern "C" fn season_set(
 }
 
 // Exchanges the slots of two placed games.
-#[unsafe(no_mangle)]
-pub extern "C" fn season_exchange(
+pub fn season_exchange(
     season: &[u8],
     sheet: &mut [u8],
     ledger: &mut [u32],

@@ -13,7 +13,7 @@ fn program() -> Option<PathBuf> {
         println!("there is no season-report; its tests are left out");
         return None;
     }
-    assert!(program.exists(), "{} is not built: rt check season_report", program.display());
+    assert!(program.exists(), "{} is not built: make report", program.display());
     Some(program)
 }
 
