@@ -60,7 +60,7 @@ sentence7 m sheet ledger tally = not (eqb sheet m.G && eqb ledger (all_entries m
 unfoldable pub sentence8 : Instance → List ℕ → Bool
 sentence8 m sheet = any_to (λ g. ltb m.P (get_or sheet g 0)) m.G || clash m.home m.away sheet
 
--- 14, which is looked at after 8: the summary has not 64 words; open looks at no more
+-- 14, which no call reads yet, to be looked at after 8: the summary has not 64 words; open looks at no more
 unfoldable pub sentence14_open : List ℕ → Bool
 sentence14_open held = not (eqb (length held) summary_words)
 

@@ -1,4 +1,4 @@
--- The team summary (FORMAT 1.4): for each of 32 teams the slots of its home games, then for each those of its away games.
+-- The team summary, which no call is lent yet: for each of 32 teams the slots of its home games, then for each those of its away games.
 use Rattle.std.specs.Prelude.{List, ◌++◌, ℕ, ◌*◌, ◌^◌, ltb}
 use Rattle.robinx.specs.Sums.{sum_to, list_to, only}
 use Rattle.robinx.specs.Season.{Instance, most_teams}
