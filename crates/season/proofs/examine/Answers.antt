@@ -42,21 +42,28 @@ length_bad-requires c = (c.sizes-z.ensures, in-range (goal.at.length_bad-require
 
 pub returns-then-length_bad : goal.returns-then-length_bad
 returns-then-length_bad c =
+    let p = goal.at.returns-then-length_bad c in
     rw c.refused_by-then-length_bad.ensures
-    (fault-3 c.args.season.now (false-1 (goal.at.returns-then-length_bad c).Else-season-lt6) (false-2 (goal.at.returns-then-length_bad c).Else-sizes_bad) (sym c.length_bad.ensures ∙ c.if-length_bad.true))
+    (fault-3 c.args.season.now (false-1 p.Else-season-lt6) (false-2 p.Else-sizes_bad) (sym c.length_bad.ensures ∙ c.if-length_bad.true))
 
 pub meetings_bad-requires : goal.meetings_bad-requires
-meetings_bad-requires c = (whole (goal.at.meetings_bad-requires c).Else-length_bad, in-range (goal.at.meetings_bad-requires c).Else-sizes_bad)
+meetings_bad-requires c =
+    let p = goal.at.meetings_bad-requires c in
+    (whole p.Else-length_bad, in-range p.Else-sizes_bad)
 
 pub returns-then-meetings_bad : goal.returns-then-meetings_bad
 returns-then-meetings_bad c =
+    let p = goal.at.returns-then-meetings_bad c in
     rw c.refused_by-then-meetings_bad.ensures
-    (fault-4 c.args.season.now (false-1 (goal.at.returns-then-meetings_bad c).Else-season-lt6) (false-2 (goal.at.returns-then-meetings_bad c).Else-sizes_bad) (false-3 (goal.at.returns-then-meetings_bad c).Else-length_bad) (sym c.meetings_bad.ensures ∙ c.if-meetings_bad.true))
+    (fault-4 c.args.season.now (false-1 p.Else-season-lt6) (false-2 p.Else-sizes_bad) (false-3 p.Else-length_bad) (sym c.meetings_bad.ensures ∙ c.if-meetings_bad.true))
 
 pub examine_constraints-requires : goal.examine_constraints-requires
-examine_constraints-requires c = (whole (goal.at.examine_constraints-requires c).Else-length_bad, in-range (goal.at.examine_constraints-requires c).Else-sizes_bad)
+examine_constraints-requires c =
+    let p = goal.at.examine_constraints-requires c in
+    (whole p.Else-length_bad, in-range p.Else-sizes_bad)
 
 pub returns : goal.returns
 returns c =
+    let p = goal.at.returns c in
     let false-4 = sym c.meetings_bad.ensures ∙ c.if-meetings_bad.false in
-    fault-5 c.args.season.now (false-1 (goal.at.returns c).Else-season-lt6) (false-2 (goal.at.returns c).Else-sizes_bad) (false-3 (goal.at.returns c).Else-length_bad) false-4 c.examine_constraints.ensures
+    fault-5 c.args.season.now (false-1 p.Else-season-lt6) (false-2 p.Else-sizes_bad) (false-3 p.Else-length_bad) false-4 c.examine_constraints.ensures
