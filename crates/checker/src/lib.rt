@@ -8,12 +8,7 @@ ghost use Rattle.robinx.specs.Calls.{buffers, outcome, open_call, set_call, exch
 use robinx::{Reply, Season, Slots};
 
 // Checks a proposed sheet and fills ledger and tally.
-pub fn season_open(
-    season: &[u8],
-    sheet: &[u8],
-    ledger: &mut [u32],
-    tally: &mut [u64],
-) -> Reply
+pub fn season_open(season: &[u8], sheet: &[u8], ledger: &mut [u32], tally: &mut [u64]) -> Reply
     ensures { outcome result (buffers sheet.now ledger.new tally.new)
         ≡ open_call season.now (buffers sheet.now ledger.old tally.old) }
 {
