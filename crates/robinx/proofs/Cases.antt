@@ -1,10 +1,14 @@
 -- Season A's calls and the other cases of FORMAT 7.3 and 7.4, and cases for slips in other definitions: all by computation.
 use mathlib.Core.Path.{◌≡◌, refl}
 use mathlib.Core.List.{List, [], ◌∷◌, ◌++◌}
+use mathlib.Core.Bool.{true, false}
 use Prim.Native.Nat.{ℕ}
 use lib.IntN.{pos, negsuc}
 use lib.ListN.{replicate, set}
 use Rattle.robinx.specs.Penalty.{combine}
+use Rattle.robinx.specs.Season.{Instance}
+use Rattle.robinx.specs.Books.{all_entries}
+use Rattle.robinx.specs.Refusals.{sentence6}
 use Rattle.robinx.specs.Report.{report_fault, report_rows}
 use Rattle.robinx.specs.Calls.{buffers, Buffers, Outcome, outcome, accepted, declined, open_call, set_call, exchange_call}
 use Rattle.robinx.proofs.All.{all}
@@ -146,3 +150,8 @@ printout
     × (report_fault (A ++ sheet_a ++ sheet_a) ≡ 7)
 unfolding all
 printout = (refl, refl, refl, refl, refl, refl)
+
+-- A report takes 6000 deviations, and not one more (FORMAT 6).
+most-deviations : (m : Instance) → (all_entries m ≡ 6000 → sentence6 m ≡ false) × (all_entries m ≡ 6001 → sentence6 m ≡ true)
+unfolding sentence6
+most-deviations m = (λ e. rw e, λ e. rw e)

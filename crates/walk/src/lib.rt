@@ -154,7 +154,8 @@ pub fn walk(
     while k < z.constraints {
         let c = reader::cursor::constraint_of(season, z, k);
         let end = at + kinds::entries_of(c);
-        if is_touched(c, touch) {
+        let touched = is_touched(c, touch);
+        if touched {
             sums = renew(
                 sums,
                 c,

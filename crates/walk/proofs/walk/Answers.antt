@@ -6,7 +6,7 @@ use Rattle.tables.specs.Tables.{tables}
 use Rattle.walk.proofs.WalkTurns.{WalkTurn, turn, all, ranges}
 use Rattle.walk.proofs.Walked.{walked_none, walked-done}
 use Rattle.walk.proofs.walk.Goals as goal
-use Rattle.walk.proofs.walk.Goals.{After-entries_of, then-is_touched, else-is_touched}
+use Rattle.walk.proofs.walk.Goals.{After-entries_of, then-touched, else-touched}
 
 pub loop-k-init : goal.loop-k-init
 loop-k-init c = (search rules, walked_none _ _ _ _ _ _ refl refl)
@@ -32,8 +32,8 @@ pub overflow_add-end : goal.overflow_add-end
 overflow_add-end c =
     omega (arith, (here (goal.at.overflow_add-end c).After-entries_of).fits, c.loop-k.invariant.1.laid.long, c.well_formed)
 
-pub is_touched-requires : goal.is_touched-requires
-is_touched-requires c = c.requires.1
+pub is_touched-touched-requires : goal.is_touched-touched-requires
+is_touched-touched-requires c = c.requires.1
 
 pub offset_bounds-ledger-at : goal.offset_bounds-ledger-at
 offset_bounds-ledger-at c =
@@ -55,16 +55,16 @@ loop-k-smaller c = omega (arith, c.loop-k-test.true)
 pub loop-k-preserved : goal.loop-k-preserved
 loop-k-preserved c =
     let t = here (goal.at.loop-k-preserved c).After-entries_of in
-    elim c.if-is_touched.branch [
-      | then-is_touched w ↦ (
+    elim c.if-touched.branch [
+      | then-touched w ↦ (
         omega (arith, c.loop-k-test.true),
         rw (w.sums-is, w.ledger-is, w.tally-is)
-            (t.reworked (sym c.is_touched.ensures ∙ w.if-is_touched.true) w.renew-sums.ensures.0 refl w.renew-sums.ensures.1 w.renew-sums.ensures.2
+            (t.reworked (sym c.is_touched-touched.ensures ∙ w.if-touched.true) w.renew-sums.ensures.0 refl w.renew-sums.ensures.1 w.renew-sums.ensures.2
             w.renew-sums.ensures.3),
       )
-      | else-is_touched w ↦ (
+      | else-touched w ↦ (
         omega (arith, c.loop-k-test.true),
-        rw (w.sums-is, w.ledger-is, w.tally-is) (t.kept (sym c.is_touched.ensures ∙ w.if-is_touched.false)),
+        rw (w.sums-is, w.ledger-is, w.tally-is) (t.kept (sym c.is_touched-touched.ensures ∙ w.if-touched.false)),
       )
     ]
 
