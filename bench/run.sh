@@ -59,7 +59,10 @@ done >> "$work/counts"
 
 "$bench" report "$work/counts" > "$work/report"
 {
-    cat "$work/report"
+    head -n 1 "$work/report"
+    # An archive that was handed in (PROVED) may be another kit's.
+    [ -n "${PROVED:-}" ] || printf '\nProved and built with `%s`.\n' "$(rt version)"
+    tail -n +2 "$work/report"
     [ ! -f bench/notes.md ] || { echo && cat bench/notes.md; }
 } > "$out"
 echo "$out is written"
