@@ -20,7 +20,7 @@ use Rattle.season.specs.Examination.{Examination}
 use Rattle.season.specs.declared.Examined.{Examined}
 use Rattle.reader.proofs.Read.{slots_read, games-read, constraints-read}
 use Rattle.season.proofs.Found.{SoundSeason, no-fault}
-use Rattle.tables.specs.Tables.{Tables}
+use Rattle.tables.specs.declared.Tables.{Tables}
 use Rattle.timetable.specs.OfSheet.{Teams, above, Builds}
 use Rattle.timetable.specs.declared.Built.{Built}
 use Rattle.admission.specs.Admission.{Admits, not_admitted}

@@ -5,7 +5,7 @@ use Rattle.robinx.specs.Calls.{Buffers, Outcome, Call, unless_refused, open_faul
 use Rattle.robinx.specs.PlainSheet.{plain_fault}
 use Rattle.robinx.specs.declared.Season.{Season}
 use Rattle.reader.specs.Sizes.{sizes_of}
-use Rattle.tables.specs.Tables.{Tables}
+use Rattle.tables.specs.declared.Tables.{Tables}
 use Rattle.timetable.specs.OfSheet.{Fits, unplaced}
 use Rattle.admission.specs.declared.Admission.{Admission}
 

@@ -19,7 +19,7 @@ use Rattle.robinx.proofs.Ext.{sum-ext}
 use Rattle.robinx.specs.declared.Constraint.{Constraint}
 use Rattle.robinx.proofs.Filled.{filled-one}
 use Rattle.robinx.proofs.Bits.{or-has, none-bit, bit-lt}
-use Rattle.tables.specs.Tables.{Tables}
+use Rattle.tables.specs.declared.Tables.{Tables}
 use Rattle.opponents.specs.Fillable.{Fillable}
 use Rattle.opponents.specs.Games.{MaskOf}
 use Rattle.between.specs.Between.{guests, hosts, MasksOf}

@@ -15,7 +15,8 @@ use Rattle.robinx.proofs.Sums.{only-bound, only-le, only_none, sum-add, sum-zero
 use Rattle.robinx.proofs.Ext.{sum-ext, over-ext, last_was-ext}
 use Rattle.masks.specs.Masks.{is_break}
 use Rattle.masks.proofs.Width.{over-stop}
-use Rattle.tables.specs.Tables.{Tables, Tied, x_of}
+use Rattle.tables.specs.declared.Tables.{Tables}
+use Rattle.tables.specs.Tables.{Tied, x_of}
 use Rattle.opponents.specs.Games.{MaskOf}
 use Rattle.opponents.proofs.Games.{sides-mask}
 use Rattle.opponents.proofs.Plays.{home-mask, away-mask, plays-mask}

@@ -22,7 +22,8 @@ use Rattle.robinx.proofs.Accepted.{length_moved, opens-again}
 use Rattle.robinx.proofs.Limits.{Sound, decode-home, decode-away}
 use Rattle.reader.specs.Sizes.{Measured}
 use Rattle.season.proofs.Found.{measured}
-use Rattle.tables.specs.Tables.{Tables, x_of}
+use Rattle.tables.specs.declared.Tables.{Tables}
+use Rattle.tables.specs.Tables.{x_of}
 use Rattle.timetable.specs.OfSheet.{InRange, Fits, unplaced}
 use Rattle.timetable.proofs.Fewer.{in-range-most}
 use Rattle.timetable.proofs.FirstGames.{unplaced-set, unplaced-low}

@@ -22,7 +22,8 @@ use Rattle.robinx.specs.declared.Reply.{Reply}
 use Rattle.robinx.proofs.Passed.{Passed, passed}
 use Rattle.robinx.proofs.Demand3.{totals-small}
 use Rattle.season.proofs.Found.{measured}
-use Rattle.tables.specs.Tables.{Tables, x_of}
+use Rattle.tables.specs.declared.Tables.{Tables}
+use Rattle.tables.specs.Tables.{x_of}
 use Rattle.timetable.specs.OfSheet.{unplaced}
 use Rattle.touch.specs.Touched.{no_move}
 use Rattle.walk.specs.Walk.{Given, SoundTouch, is_touched}

@@ -14,7 +14,8 @@ use Rattle.robinx.proofs.Passed.{Passed}
 use Rattle.robinx.proofs.Accepted.{low}
 use Rattle.robinx.proofs.Limits.{Sound, sound, decode-home, decode-away}
 use Rattle.robinx.proofs.Demand3.{lengths}
-use Rattle.tables.specs.Tables.{Tables, x_of, Tied}
+use Rattle.tables.specs.declared.Tables.{Tables}
+use Rattle.tables.specs.Tables.{x_of, Tied}
 use Rattle.timetable.specs.OfSheet.{Shows, InRange, Fits, unplaced}
 use Rattle.timetable.proofs.Fewer.{shows-for}
 

@@ -7,7 +7,7 @@ use Rattle.robinx.specs.Calls.{Buffers, Outcome, outcome, declined, opened, open
 use Rattle.robinx.specs.PlainSheet.{plain_fault}
 use Rattle.robinx.specs.declared.Reply.{Reply}
 use Rattle.robinx.proofs.Passed.{or_else, fault-of-call}
-use Rattle.tables.specs.Tables.{Tables}
+use Rattle.tables.specs.declared.Tables.{Tables}
 use Rattle.admission.specs.Admission.{Admits, after_entry}
 use Rattle.admission.specs.declared.Admission.{Admission}
 use Rattle.calls.proofs.CallNumbers.{refusal_is, first-stands}

@@ -18,7 +18,8 @@ use Rattle.robinx.proofs.Ext.{sum-ext, each-ext, each_pair-ext}
 use Rattle.groups.specs.declared.Members.{Members}
 use Rattle.groups.specs.MemberWalk.{Ahead, From, Step}
 use Rattle.groups.proofs.MemberWalk.{to-next, to_end}
-use Rattle.tables.specs.Tables.{Tables, x_of}
+use Rattle.tables.specs.declared.Tables.{Tables}
+use Rattle.tables.specs.Tables.{x_of}
 use Rattle.rows.specs.Rows.{places, Holds, HoldsAt, marked, up_to, laid, laid_at}
 use Rattle.rows.proofs.Rows.{laid-holds, laid_at-length, laid_at-holds, laid_at-other, farthest-ext, farthest-of, worst-less}
 use Rattle.opponents.specs.Fillable.{Fillable}

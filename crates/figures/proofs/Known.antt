@@ -8,7 +8,8 @@ use Rattle.robinx.specs.Deviations.{deviations_of, deviations}
 use Rattle.robinx.specs.declared.Constraint.{Constraint}
 use Rattle.robinx.proofs.Limits.{known}
 use Rattle.robinx.proofs.Unknown.{NoKind, unknown-kind}
-use Rattle.tables.specs.Tables.{Tables, x_of}
+use Rattle.tables.specs.declared.Tables.{Tables}
+use Rattle.tables.specs.Tables.{x_of}
 use Rattle.opponents.specs.Fillable.{Fillable}
 use Rattle.opponents.proofs.Fillable.{limits}
 

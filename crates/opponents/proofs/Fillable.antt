@@ -9,7 +9,7 @@ use Rattle.robinx.specs.Deviations.{over, in_shape, entries}
 use Rattle.robinx.specs.declared.Constraint.{Constraint}
 use Rattle.robinx.proofs.Limits.{Obeys, obeyed}
 use Rattle.masks.proofs.Width.{over-stop}
-use Rattle.tables.specs.Tables.{Tables}
+use Rattle.tables.specs.declared.Tables.{Tables}
 use Rattle.opponents.specs.Fillable.{Fillable, TiedGroup}
 
 module _ {n P : ℕ} {c : Constraint} {ts : Tables} {out : List ℕ} (r : Fillable n P c ts out) where

@@ -15,7 +15,8 @@ use Rattle.robinx.proofs.Ext.{sum-ext, max-ext}
 use Rattle.robinx.proofs.Bits.{or-bit, none-bit, all-bit}
 use Rattle.robinx.proofs.SetBits.{none-past}
 use Rattle.robinx.proofs.Stops.{max-stop}
-use Rattle.tables.specs.Tables.{Tables, Tied, x_of, cell}
+use Rattle.tables.specs.declared.Tables.{Tables}
+use Rattle.tables.specs.Tables.{Tied, x_of, cell}
 use Rattle.opponents.specs.Games.{MaskOf, of_sides, in_union, UnionIf}
 
 -- where at most one of two or of many is 1, the largest is the sum

@@ -9,7 +9,8 @@ use Rattle.robinx.specs.Groups.{bit, has}
 use Rattle.robinx.specs.Timetable.{home_side, away_side, games_with, games_in, plays}
 use Rattle.robinx.proofs.Ext.{sum-ext}
 use Rattle.robinx.proofs.Bits.{at_bits}
-use Rattle.tables.specs.Tables.{Tables, Tied, x_of}
+use Rattle.tables.specs.declared.Tables.{Tables}
+use Rattle.tables.specs.Tables.{Tied, x_of}
 use Rattle.opponents.specs.Games.{MaskOf}
 
 some : (m k : ℕ) → ltb 0 (bit m k) ≡ has m k

@@ -4,7 +4,8 @@ use Rattle.robinx.specs.Season.{most_teams, most_slots}
 use Rattle.robinx.specs.Deviations.{entries}
 use Rattle.robinx.specs.Rules.{obeys}
 use Rattle.robinx.specs.declared.Constraint.{Constraint}
-use Rattle.tables.specs.Tables.{Tables, Tied}
+use Rattle.tables.specs.declared.Tables.{Tables}
+use Rattle.tables.specs.Tables.{Tied}
 
 pub record Fillable (n P : ℕ) (c : Constraint) (t : Tables) (out : List ℕ) : Type 0 where
   pub teams : n ≤ most_teams

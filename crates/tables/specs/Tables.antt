@@ -6,12 +6,7 @@ use Rattle.robinx.specs.Groups.{bit, has}
 use Rattle.robinx.specs.Season.{most_teams, most_slots, most_places}
 use Rattle.robinx.specs.Timetable.{X}
 use Rattle.masks.specs.Masks.{joined, without}
-
--- `home` and `away` have a mask of slots for each team, `meets` one for each two teams, the first at home.
-pub record Tables : Type 0 where
-  pub home : List ℕ
-  pub away : List ℕ
-  pub meets : List ℕ
+use Rattle.tables.specs.declared.Tables.{Tables}
 
 abbrev pub tables : List ℕ → List ℕ → List ℕ → Tables
 tables home away meets = record { home = home; away = away; meets = meets }

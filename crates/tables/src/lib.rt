@@ -16,6 +16,14 @@ pub struct Patterns {
     pub away: [Slots; Season::TEAMS],
 }
 
+// `home` and `away` have a mask of slots for each team, `meets` one for each two teams, the first at home.
+#[derive(Drop)]
+pub struct Tables {
+    pub home: [Slots; Season::TEAMS],
+    pub away: [Slots; Season::TEAMS],
+    pub meets: [Slots; Season::PLACES],
+}
+
 fn either(a: bool, b: bool) -> bool
     ensures { result ≡ a || b }
 {

@@ -12,7 +12,8 @@ use Rattle.robinx.specs.Sums.{sum_to, any_to, only}
 use Rattle.robinx.specs.Season.{most_teams, most_slots}
 use Rattle.robinx.specs.Timetable.{clash}
 use Rattle.robinx.proofs.Sums.{any_some, any_step}
-use Rattle.tables.specs.Tables.{Tables, Tried}
+use Rattle.tables.specs.declared.Tables.{Tables}
+use Rattle.tables.specs.Tables.{Tried}
 use Rattle.timetable.specs.OfSheet.{Teams, InRange, Fits, Empty, unplaced, above, Builds}
 use Rattle.timetable.specs.declared.Built.{Built}
 use Rattle.timetable.proofs.Laws.{in-range-set}

@@ -11,7 +11,8 @@ use Rattle.robinx.specs.Sums.{sum_to}
 use Rattle.robinx.specs.Season.{most_teams}
 use Rattle.robinx.specs.Timetable.{is_at, meetings}
 use Rattle.robinx.proofs.Sums.{sum-zero}
-use Rattle.tables.specs.Tables.{Tables, x_of}
+use Rattle.tables.specs.declared.Tables.{Tables}
+use Rattle.tables.specs.Tables.{x_of}
 use Rattle.timetable.specs.OfSheet.{Shows, InRange}
 
 pub in-range-most : {n : ℕ} {homes aways sheet : List ℕ} → InRange n homes aways sheet → InRange most_teams homes aways sheet

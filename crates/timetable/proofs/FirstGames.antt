@@ -16,7 +16,8 @@ use Rattle.robinx.specs.Season.{most_teams, most_places}
 use Rattle.robinx.specs.Timetable.{is_at, meetings, clash}
 use Rattle.robinx.proofs.Sums.{never, only-le, sum-zero, sum_step, sum_bound}
 use Rattle.robinx.proofs.Bits.{none-bit}
-use Rattle.tables.specs.Tables.{Tables, cell, x_of}
+use Rattle.tables.specs.declared.Tables.{Tables}
+use Rattle.tables.specs.Tables.{cell, x_of}
 use Rattle.timetable.specs.OfSheet.{Fits, Empty, unplaced}
 use Rattle.timetable.proofs.Points.{sum-change}
 use Rattle.timetable.proofs.Clash.{clash-is, clashing-kept}

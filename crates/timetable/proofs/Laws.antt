@@ -12,7 +12,8 @@ use Rattle.robinx.specs.Season.{most_slots}
 use Rattle.robinx.specs.Timetable.{meetings, clash}
 use Rattle.robinx.proofs.Sums.{or_no, never, term-le-sum}
 use Rattle.robinx.proofs.Bits.{out-bit}
-use Rattle.tables.specs.Tables.{Tables, tables, cell, x_of, Sized, busy, taken, put_into, taken_out_of}
+use Rattle.tables.specs.declared.Tables.{Tables}
+use Rattle.tables.specs.Tables.{tables, cell, x_of, Sized, busy, taken, put_into, taken_out_of}
 use Rattle.timetable.specs.OfSheet.{Shows, InRange}
 use Rattle.timetable.proofs.Points.{joined-more, without-less, set-gains, set-loses}
 use Rattle.timetable.proofs.Tied.{MeetsMore, shows_more, shows-less}

@@ -13,7 +13,8 @@ use Rattle.robinx.specs.Season.{most_slots}
 use Rattle.robinx.specs.Timetable.{is_at, meetings}
 use Rattle.robinx.proofs.Sums.{and_yes, term-le-sum}
 use Rattle.robinx.proofs.Bits.{bit-lt, in-bit}
-use Rattle.tables.specs.Tables.{Tables, cell, x_of, busy}
+use Rattle.tables.specs.declared.Tables.{Tables}
+use Rattle.tables.specs.Tables.{cell, x_of, busy}
 use Rattle.timetable.specs.OfSheet.{Shows, InRange}
 use Rattle.timetable.proofs.Clash.{sum-found, count-found, or_cases, team-cases, Plays}
 

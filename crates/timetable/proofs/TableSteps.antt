@@ -9,7 +9,8 @@ use lib.Seq.{get_or-set_same, get_or-set_other, set-set, set_comm, set-get_or}
 use borrow.Author.Tests.{not-true, not-false}
 use Rattle.robinx.specs.Season.{most_slots}
 use Rattle.robinx.specs.Timetable.{clash}
-use Rattle.tables.specs.Tables.{Tables, put_into, taken_out_of, free_at, Tried}
+use Rattle.tables.specs.declared.Tables.{Tables}
+use Rattle.tables.specs.Tables.{put_into, taken_out_of, free_at, Tried}
 use Rattle.timetable.specs.OfSheet.{Shows, InRange, Fits}
 use Rattle.timetable.proofs.Laws.{in-range-set, lift-law, place-law, busy-is-clash, clash-lift, clash-stays}
 

@@ -13,7 +13,8 @@ use Rattle.robinx.specs.Season.{most_teams}
 use Rattle.robinx.specs.Timetable.{X, meetings}
 use Rattle.robinx.proofs.Sums.{sum-add, sum-zero}
 use Rattle.robinx.proofs.Ext.{sum-ext}
-use Rattle.tables.specs.Tables.{Tables, cell, x_of, Sized, Tied}
+use Rattle.tables.specs.declared.Tables.{Tables}
+use Rattle.tables.specs.Tables.{cell, x_of, Sized, Tied}
 use Rattle.timetable.specs.OfSheet.{Shows}
 use Rattle.timetable.proofs.Points.{Gains, sum-point}
 

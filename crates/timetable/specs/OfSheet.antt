@@ -3,7 +3,8 @@ use Rattle.std.specs.Prelude.{◌≡◌, List, Bool, true, ◌||◌, not, ℕ, �
 use Rattle.robinx.specs.Sums.{sum_to, any_to, only}
 use Rattle.robinx.specs.Season.{most_teams, most_slots, most_places}
 use Rattle.robinx.specs.Timetable.{meetings, clash}
-use Rattle.tables.specs.Tables.{Tables, Tied, x_of}
+use Rattle.tables.specs.declared.Tables.{Tables}
+use Rattle.tables.specs.Tables.{Tied, x_of}
 use Rattle.timetable.specs.declared.Built.{Built}
 
 -- The tables are those of the sheet.

@@ -17,7 +17,8 @@ use Rattle.robinx.specs.declared.Constraint.{Constraint}
 use Rattle.robinx.proofs.Bits.{front-has}
 use Rattle.robinx.proofs.SetBits.{none-past}
 use Rattle.robinx.proofs.Trips.{along_trip-ext, along_trip-stop, over_trips-ext, over_trips-stop}
-use Rattle.tables.specs.Tables.{Tables, Tied, x_of}
+use Rattle.tables.specs.declared.Tables.{Tables}
+use Rattle.tables.specs.Tables.{Tied, x_of}
 use Rattle.opponents.specs.Games.{MaskOf}
 use Rattle.opponents.proofs.Plays.{home-mask, away-mask, plays-mask}
 use Rattle.trips.specs.TripFigures.{is_trip_kind, of_trip, of_masks, trip_figure}

@@ -22,7 +22,8 @@ use Rattle.rules.specs.CountedBits.{ones_in}
 use Rattle.robinx.specs.Kinds.{form_at}
 use Rattle.reader.proofs.Read.{SizesInRange, in-range, teams-read, slots_read, constraints-read, sizes-tested}
 use Rattle.rules.proofs.Members.{entries-counted}
-use Rattle.tables.specs.Tables.{Tables, x_of}
+use Rattle.tables.specs.declared.Tables.{Tables}
+use Rattle.tables.specs.Tables.{x_of}
 use Rattle.opponents.specs.Fillable.{Fillable}
 use Rattle.totals.specs.RunningTotals.{Adds}
 use Rattle.walk.specs.Walk.{Given, is_touched}

@@ -9,7 +9,8 @@ use Rattle.robinx.specs.Refusals.{sentence2, sentence5}
 use Rattle.robinx.specs.declared.Constraint.{Constraint}
 use Rattle.robinx.specs.declared.Season.{Season}
 use Rattle.reader.specs.Sizes.{Measured}
-use Rattle.tables.specs.Tables.{Tables, Tied}
+use Rattle.tables.specs.declared.Tables.{Tables}
+use Rattle.tables.specs.Tables.{Tied}
 use Rattle.touch.specs.Touched.{Possible, Named, touched_by_move}
 use Rattle.totals.specs.RunningTotals.{TotalsOf}
 use Rattle.walk.specs.declared.Touch.{Touch}

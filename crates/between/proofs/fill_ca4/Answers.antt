@@ -9,7 +9,8 @@ use Rattle.robinx.specs.Kinds.{kind_of, form_of}
 use Rattle.robinx.specs.Timetable.{first_modes}
 use Rattle.robinx.specs.Deviations.{outside, dev_ca4}
 use Rattle.robinx.proofs.Ext.{each-ext}
-use Rattle.tables.specs.Tables.{Tables, x_of}
+use Rattle.tables.specs.declared.Tables.{Tables}
+use Rattle.tables.specs.Tables.{x_of}
 use Rattle.opponents.specs.Fillable.{Fillable}
 use Rattle.robinx.specs.declared.Constraint.{Constraint}
 use mathlib.Core.List.{List}
