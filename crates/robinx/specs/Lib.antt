@@ -9,6 +9,7 @@ pub mod Penalty
 pub mod Rules
 pub mod Books
 pub mod Summary
+pub mod RefusalNumbers
 pub mod Refusals
 pub mod Calls
 pub mod Report

@@ -2,6 +2,9 @@
 
 #![tactic(auto)]
 
+ghost use Rattle.std.specs.Prelude.{◌≡◌};
+ghost use Rattle.robinx.specs.RefusalNumbers.{number_of};
+
 // The sizes of a season.
 #[derive(Clone, Copy)]
 pub struct Season {
@@ -117,4 +120,45 @@ pub struct Reply {
     pub number: u8,
     pub infeasibility: i64,
     pub objective: i64,
+}
+
+// Why a call or a report is refused: the sentences of docs/FORMAT.md, section 6, in their order. A definition gives each its number.
+#[derive(Clone, Copy, Debug, PartialEq, Eq)]
+pub enum Refusal {
+    ShortSeason,
+    SizeOutOfRange,
+    SeasonLength,
+    BadGame,
+    BadConstraint,
+    TooManyDeviations,
+    BufferLength,
+    BadSheet,
+    NoSuchGame,
+    NoSuchSlot,
+    SameGame,
+    UnplacedGame,
+    TeamBusy,
+}
+
+impl Refusal {
+    // The number of the sentence.
+    pub fn number(self) -> u8
+        ensures { result ≡ number_of self }
+    {
+        match self {
+            Refusal::ShortSeason => 1,
+            Refusal::SizeOutOfRange => 2,
+            Refusal::SeasonLength => 3,
+            Refusal::BadGame => 4,
+            Refusal::BadConstraint => 5,
+            Refusal::TooManyDeviations => 6,
+            Refusal::BufferLength => 7,
+            Refusal::BadSheet => 8,
+            Refusal::NoSuchGame => 9,
+            Refusal::NoSuchSlot => 10,
+            Refusal::SameGame => 11,
+            Refusal::UnplacedGame => 12,
+            Refusal::TeamBusy => 13,
+        }
+    }
 }
