@@ -1,6 +1,6 @@
 -- The three tables of a sheet: which slots a team plays at home, which away, and in which one team hosts another.
 -- A mask's bit k is slot k, counted from 0; a sheet's byte counts from 1 and is 0 for an unplaced game.
-use Rattle.std.specs.Prelude.{◌≡◌, List, Bool, true, ◌||◌, not, cond, ℕ, zero, suc, ◌+◌, ◌*◌, ◌<◌, ◌≤◌, length, get_or, set}
+use Rattle.std.specs.Prelude.{◌≡◌, List, Bool, true, ◌||◌, not, cond, ℕ, zero, suc, ◌+◌, ◌*◌, ◌<◌, ◌≤◌, length, get_or, set, replicate}
 use Rattle.robinx.specs.Sums.{sum_to}
 use Rattle.robinx.specs.Groups.{bit, has}
 use Rattle.robinx.specs.Season.{most_teams, most_slots, most_places}
@@ -24,6 +24,12 @@ pub record Sized (t : Tables) : Type 0 where
   pub home-length : length t.home ≡ most_teams
   pub away-length : length t.away ≡ most_teams
   pub meets-length : length t.meets ≡ most_places
+
+-- no game is placed
+pub record Empty (t : Tables) : Type 0 where
+  pub home-is : t.home ≡ replicate most_teams 0
+  pub away-is : t.away ≡ replicate most_teams 0
+  pub meets-is : t.meets ≡ replicate most_places 0
 
 -- The rows say what `meets` says, and no team has two games in a slot.
 pub record Tied (n : ℕ) (t : Tables) : Type 0 where

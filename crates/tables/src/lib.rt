@@ -3,9 +3,9 @@
 
 #![tactic(auto)]
 
-ghost use Rattle.std.specs.Prelude.{◌≡◌, ◌||◌, suc, ◌<◌};
+ghost use Rattle.std.specs.Prelude.{◌≡◌, suc, ◌<◌, ◌≤◌};
 ghost use Rattle.robinx.specs.Season.{most_teams, most_slots};
-ghost use Rattle.tables.specs.Tables.{tables, busy, taken_out_of, Tried};
+ghost use Rattle.tables.specs.Tables.{busy, taken_out_of, Tried, Empty};
 
 use robinx::{Season, Slots};
 
@@ -24,58 +24,71 @@ pub struct Tables {
     pub meets: [Slots; Season::PLACES],
 }
 
-fn either(a: bool, b: bool) -> bool
-    ensures { result ≡ a || b }
-{
-    if a { true } else { b }
-}
-
-// Team t has a game in slot k.
-fn busy(home: &[Slots; Season::TEAMS], away: &[Slots; Season::TEAMS], t: usize, k: u64) -> bool
-    requires { (t < most_teams) × (k < most_slots) }
-    ensures { result ≡ busy home.now away.now t k }
-{
-    either(masks::is_in(home[t], k), masks::is_in(away[t], k))
-}
-
-// Puts i at home against j into slot k, or says that one of them is busy there and changes nothing.
-pub fn place(
-    home: &mut [Slots; Season::TEAMS],
-    away: &mut [Slots; Season::TEAMS],
-    meets: &mut [Slots; Season::PLACES],
-    i: usize,
-    j: usize,
-    k: u64,
-) -> bool
-    requires { (i < most_teams) × (j < most_teams) × (k < most_slots) }
-    ensures { Tried result i j (suc k) (tables home.old away.old meets.old)
-        (tables home.new away.new meets.new) }
-{
-    if either(busy(&*home, &*away, i, k), busy(&*home, &*away, j, k)) {
-        return false;
+impl Tables {
+    // No game is placed.
+    pub fn new() -> Self
+        ensures { Empty result }
+    {
+        Self {
+            home: [masks::NONE; Season::TEAMS],
+            away: [masks::NONE; Season::TEAMS],
+            meets: [masks::NONE; Season::PLACES],
+        }
     }
-    home[i] = masks::joined(home[i], k);
-    away[j] = masks::joined(away[j], k);
-    let q = i * Season::TEAMS + j;
-    meets[q] = masks::joined(meets[q], k);
-    true
-}
 
-// Takes i at home against j out of slot k.
-pub fn lift(
-    home: &mut [Slots; Season::TEAMS],
-    away: &mut [Slots; Season::TEAMS],
-    meets: &mut [Slots; Season::PLACES],
-    i: usize,
-    j: usize,
-    k: u64,
-)
-    requires { (i < most_teams) × (j < most_teams) × (k < most_slots) }
-    ensures { tables home.new away.new meets.new
-        ≡ taken_out_of i j (suc k) (tables home.old away.old meets.old) }
-{
-    home[i] = masks::without(home[i], k);
-    away[j] = masks::without(away[j], k);
-    let q = i * Season::TEAMS + j;
-    meets[q] = masks::without(meets[q], k);
+    // Team t has a game in slot k.
+    fn busy(&self, t: usize, k: u64) -> bool
+        requires { (t < most_teams) × (k < most_slots) }
+        ensures { result ≡ busy self.now.home self.now.away t k }
+    {
+        masks::is_in(self.home[t], k) | masks::is_in(self.away[t], k)
+    }
+
+    // Puts i at home against j into slot k, or says that one of them is busy there and changes nothing.
+    pub fn place(&mut self, i: usize, j: usize, k: u64) -> bool
+        requires { (i < most_teams) × (j < most_teams) × (k < most_slots) }
+        ensures { Tried result i j (suc k) self.old self.new }
+    {
+        if self.busy(i, k) | self.busy(j, k) {
+            return false;
+        }
+        let q = i * Season::TEAMS + j;
+        self.home[i] = masks::joined(self.home[i], k);
+        self.away[j] = masks::joined(self.away[j], k);
+        self.meets[q] = masks::joined(self.meets[q], k);
+        true
+    }
+
+    // Takes i at home against j out of slot k.
+    pub fn lift(&mut self, i: usize, j: usize, k: u64)
+        requires { (i < most_teams) × (j < most_teams) × (k < most_slots) }
+        ensures { self.new ≡ taken_out_of i j (suc k) self.old }
+    {
+        let q = i * Season::TEAMS + j;
+        self.home[i] = masks::without(self.home[i], k);
+        self.away[j] = masks::without(self.away[j], k);
+        self.meets[q] = masks::without(self.meets[q], k);
+    }
+
+    // Puts i at home against j into the slot of byte b of a sheet, of which 0 is no slot, or says that one of them is busy there and changes
+    // nothing.
+    pub fn put(&mut self, i: u8, j: u8, b: u8) -> bool
+        requires { (i < most_teams) × (j < most_teams) × (b ≤ most_slots) }
+        ensures { Tried result i j b self.old self.new }
+    {
+        match b.checked_sub(1) {
+            Some(k) => self.place(usize::from(i), usize::from(j), u64::from(k)),
+            None => true,
+        }
+    }
+
+    // Takes i at home against j out of that slot.
+    pub fn take_out(&mut self, i: u8, j: u8, b: u8)
+        requires { (i < most_teams) × (j < most_teams) × (b ≤ most_slots) }
+        ensures { self.new ≡ taken_out_of i j b self.old }
+    {
+        if let Some(k) = b.checked_sub(1) {
+            self.lift(usize::from(i), usize::from(j), u64::from(k));
+        }
+    }
 }

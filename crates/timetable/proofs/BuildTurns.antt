@@ -1,7 +1,7 @@
 -- The turns of build, and the three ways in which it ends. Assumes nothing.
 use mathlib.Core.Path.{◌≡◌, refl, sym, ap, ◌∙◌}
 use mathlib.Core.List.{List}
-use mathlib.Core.Bool.{Bool, true, false, ◌||◌, not, or-true, true≢false}
+use mathlib.Core.Bool.{Bool, true, false, ◌||◌, not, or-true}
 use Prim.Native.Nat.{ℕ, suc, ◌+◌, ◌<◌, ◌≤◌}
 use native.Mathlib.Omega.{arith}
 use native.Mathlib.Numerals.{add-one}
@@ -14,8 +14,9 @@ use Rattle.robinx.specs.Timetable.{clash}
 use Rattle.robinx.proofs.Sums.{any_some, any_step}
 use Rattle.tables.specs.declared.Tables.{Tables}
 use Rattle.tables.specs.Tables.{Tried}
-use Rattle.timetable.specs.OfSheet.{Teams, InRange, Fits, Empty, unplaced, above, Builds}
-use Rattle.timetable.specs.declared.Built.{Built}
+use Rattle.tables.specs.Tables.{Empty}
+use Rattle.timetable.specs.OfSheet.{Teams, InRange, Fits, unplaced, above, Builds}
+use Rattle.std.specs.Prelude.{Some, None}
 use Rattle.timetable.proofs.Laws.{in-range-set}
 use Rattle.timetable.proofs.TableSteps.{fits-tried}
 use Rattle.timetable.proofs.FirstGames.{placed_to, none-at, later, all_placed, clash-of-first, fits-none, unplaced-next}
@@ -43,26 +44,18 @@ module _ {p : ℕ} {homes aways sheet : List ℕ} (sized : length sheet ≡ leng
     count = refl;
   }
 
-  unfit : {t : Tables} {a : Built} → a.fits ≡ false → above p sheet || clash homes aways sheet ≡ true → Builds p homes aways sheet a t
-  unfit e bad = record {
-    answer = e ∙ sym (ap not bad);
-    shows = λ yes. absurd (true≢false (sym yes ∙ e));
-    count = λ yes. absurd (true≢false (sym yes ∙ e));
-  }
+  unfit : {t : Tables} → above p sheet || clash homes aways sheet ≡ true → Builds p homes aways sheet None t
+  unfit bad = record { answer = sym (ap not bad); shows = tt; count = tt }
 
   -- it ends at a byte above p
-  pub ends_above : (g : ℕ) {t : Tables} {a : Built} → g < length homes → p < get_or sheet g 0 → a.fits ≡ false → Builds p homes aways sheet a t
-  ends_above g low high e =
-      unfit e (rw (any_some (λ h. ltb p (get_or sheet h 0)) (length sheet) g (omega arith) (lt-ltb p (get_or sheet g 0) high)))
+  pub ends_above : (g : ℕ) {t : Tables} → g < length homes → p < get_or sheet g 0 → Builds p homes aways sheet None t
+  ends_above g low high =
+      unfit (rw (any_some (λ h. ltb p (get_or sheet h 0)) (length sheet) g (omega arith) (lt-ltb p (get_or sheet g 0) high)))
 
   module _ {g u : ℕ} {t : Tables} (b : Begun p homes aways sheet g t u) where
     -- .. after the last game
-    pub ends-whole : g ≡ length homes → Builds p homes aways sheet (record { fits = true; unplaced = u }) t
-    ends-whole e = record {
-      answer = rw none (rw all at b.fits.no-clash);
-      shows = λ yes. rw all at (b.fits.shows refl);
-      count = λ yes. rw (← e) b.count;
-    }
+    pub ends-whole : g ≡ length homes → Builds p homes aways sheet (Some u) t
+    ends-whole e = record { answer = rw none (rw all at b.fits.no-clash); shows = rw all at (b.fits.shows refl); count = rw (← e) b.count }
       where
         all : placed_to sheet g ≡ sheet
         all = ap (placed_to sheet) (e ∙ sym sized) ∙ all_placed sheet
@@ -78,9 +71,9 @@ module _ {p : ℕ} {homes aways sheet : List ℕ} (sized : length sheet ≡ leng
           fits-tried b.range g low true r (get_or sheet g 0) (omega arith) (later sheet g g (omega arith)) b.fits tried
 
       -- .. where a team is busy
-      pub ends-busy : {a : Built} → r ≡ false → a.fits ≡ false → Builds p homes aways sheet a t'
-      ends-busy e ea =
-          unfit ea (rw (clash-of-first sheet homes aways (suc g) (omega arith) (not-false _ (sym next_fits.no-clash ∙ e)), or-true))
+      pub ends-busy : r ≡ false → Builds p homes aways sheet None t'
+      ends-busy e =
+          unfit (rw (clash-of-first sheet homes aways (suc g) (omega arith) (not-false _ (sym next_fits.no-clash ∙ e)), or-true))
 
       pub next-turn : {v : ℕ} → r ≡ true → v ≡ only (eqb (get_or sheet g 0) 0) 1 → Begun p homes aways sheet (g + 1) t' (u + v)
       unfolding placed_to

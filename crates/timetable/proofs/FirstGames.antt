@@ -18,7 +18,8 @@ use Rattle.robinx.proofs.Sums.{never, only-le, sum-zero, sum_step, sum_bound}
 use Rattle.robinx.proofs.Bits.{none-bit}
 use Rattle.tables.specs.declared.Tables.{Tables}
 use Rattle.tables.specs.Tables.{cell, x_of}
-use Rattle.timetable.specs.OfSheet.{Fits, Empty, unplaced}
+use Rattle.tables.specs.Tables.{Empty}
+use Rattle.timetable.specs.OfSheet.{Fits, unplaced}
 use Rattle.timetable.proofs.Points.{sum-change}
 use Rattle.timetable.proofs.Clash.{clash-is, clashing-kept}
 

@@ -1,11 +1,10 @@
 -- The tables of a sheet of a season's games, and what building them answers.
-use Rattle.std.specs.Prelude.{◌≡◌, List, Bool, true, ◌||◌, not, ℕ, ◌<◌, ◌≤◌, eqb, ltb, length, get_or, replicate}
+use Rattle.std.specs.Prelude.{◌≡◌, List, Bool, Option, true, ◌||◌, not, ℕ, ◌<◌, ◌≤◌, eqb, ltb, length, get_or, is_some, IfSome}
 use Rattle.robinx.specs.Sums.{sum_to, any_to, only}
-use Rattle.robinx.specs.Season.{most_teams, most_slots, most_places}
+use Rattle.robinx.specs.Season.{most_teams, most_slots}
 use Rattle.robinx.specs.Timetable.{meetings, clash}
 use Rattle.tables.specs.declared.Tables.{Tables}
 use Rattle.tables.specs.Tables.{Tied, x_of}
-use Rattle.timetable.specs.declared.Built.{Built}
 
 -- The tables are those of the sheet.
 pub record Shows (n : ℕ) (t : Tables) (homes aways sheet : List ℕ) : Type 0 where
@@ -30,12 +29,6 @@ pub record Fits (n : ℕ) (ok : Bool) (t : Tables) (homes aways sheet : List ℕ
   pub no-clash : ok ≡ not (clash homes aways sheet)
   pub shows : ok ≡ true → Shows n t homes aways sheet
 
--- no game is placed
-pub record Empty (t : Tables) : Type 0 where
-  pub home-is : t.home ≡ replicate most_teams 0
-  pub away-is : t.away ≡ replicate most_teams 0
-  pub meets-is : t.meets ≡ replicate most_places 0
-
 -- how many games of the sheet have no slot
 abbrev pub unplaced : List ℕ → ℕ → ℕ
 unplaced sheet G = sum_to (λ g. only (eqb (get_or sheet g 0) 0) 1) G
@@ -45,8 +38,8 @@ abbrev pub above : ℕ → List ℕ → Bool
 above p sheet = any_to (λ g. ltb p (get_or sheet g 0)) (length sheet)
 
 -- What building the tables of a sheet answers and leaves. The sheet fits when no byte is above p and no team has two games in a slot; then
--- the tables are its own, and the games that have no slot are counted.
-pub record Builds (p : ℕ) (homes aways sheet : List ℕ) (r : Built) (t : Tables) : Type 0 where
-  pub answer : r.fits ≡ not (above p sheet || clash homes aways sheet)
-  pub shows : r.fits ≡ true → Shows most_teams t homes aways sheet
-  pub count : r.fits ≡ true → r.unplaced ≡ unplaced sheet (length homes)
+-- the tables are its own, and the answer is the number of games that have no slot.
+pub record Builds (p : ℕ) (homes aways sheet : List ℕ) (r : Option ℕ) (t : Tables) : Type 0 where
+  pub answer : is_some r ≡ not (above p sheet || clash homes aways sheet)
+  pub shows : IfSome r (λ u. Shows most_teams t homes aways sheet)
+  pub count : IfSome r (λ u. u ≡ unplaced sheet (length homes))

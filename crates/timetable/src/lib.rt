@@ -2,131 +2,45 @@
 
 #![tactic(auto)]
 
-ghost use Rattle.std.specs.Prelude.{◌≡◌, true, false, ◌&&◌, ◌<◌, ◌≤◌, eqb, length, set, get_or};
+ghost use Rattle.std.specs.Prelude.{◌≡◌, true, ◌<◌, ◌≤◌, eqb, length, set, get_or};
 ghost use Rattle.robinx.specs.Sums.{only};
 ghost use Rattle.robinx.specs.Season.{most_teams, most_slots};
-ghost use Rattle.tables.specs.Tables.{tables, taken_out_of, Tried};
-ghost use Rattle.timetable.specs.OfSheet.{Teams, InRange, Fits, Empty, Builds};
+ghost use Rattle.tables.specs.Tables.{Empty};
+ghost use Rattle.timetable.specs.OfSheet.{Teams, InRange, Fits, Builds};
 
-use robinx::{Season, Slots};
-
-fn both(a: bool, b: bool) -> bool
-    ensures { result ≡ a && b }
-{
-    if a { b } else { false }
-}
-
-// Puts game g into the slot of byte b, of which 0 is no slot, or says that one of its teams is busy there.
-fn put(
-    homes: &[u8],
-    aways: &[u8],
-    home: &mut [Slots; Season::TEAMS],
-    away: &mut [Slots; Season::TEAMS],
-    meets: &mut [Slots; Season::PLACES],
-    g: usize,
-    b: u8,
-) -> bool
-    requires { Teams most_teams homes.now aways.now × (g < length homes.now) × (b ≤ most_slots) }
-    ensures { Tried result (get_or homes.now g 0) (get_or aways.now g 0) b
-        (tables home.old away.old meets.old)
-        (tables home.new away.new meets.new) }
-{
-    if b == 0 {
-        return true;
-    }
-    tables::place(
-        home,
-        away,
-        meets,
-        homes[g] as usize,
-        aways[g] as usize,
-        (b - 1) as u64,
-    )
-}
-
-// Takes it out of that slot.
-fn take_out(
-    homes: &[u8],
-    aways: &[u8],
-    home: &mut [Slots; Season::TEAMS],
-    away: &mut [Slots; Season::TEAMS],
-    meets: &mut [Slots; Season::PLACES],
-    g: usize,
-    b: u8,
-)
-    requires { Teams most_teams homes.now aways.now × (g < length homes.now) × (b ≤ most_slots) }
-    ensures { tables home.new away.new meets.new
-        ≡ taken_out_of (get_or homes.now g 0) (get_or aways.now g 0) b
-        (tables home.old away.old meets.old) }
-{
-    if b == 0 {
-        return;
-    }
-    tables::lift(
-        home,
-        away,
-        meets,
-        homes[g] as usize,
-        aways[g] as usize,
-        (b - 1) as u64,
-    );
-}
+use tables::Tables;
 
 // 1 for a byte that is no slot.
 pub fn no_slot(b: u8) -> usize
     ensures { result ≡ only (eqb b 0) 1 }
 {
-    if b == 0 { 1 } else { 0 }
+    usize::from(b == 0)
 }
 
-// What is known of a sheet once its tables are built: it fits, and so many games have no slot.
-#[derive(Clone, Copy)]
-pub struct Built {
-    pub fits: bool,
-    pub unplaced: usize,
-}
-
-fn unfit() -> Built
-    ensures { result.fits ≡ false }
-{
-    Built {
-        fits: false,
-        unplaced: 0,
-    }
-}
-
-// Puts every placed game into empty tables. It stops where the sheet does not fit: at a byte above p, and where a team is busy.
+// Puts every placed game into empty tables, and counts the games that have no slot. None: the sheet does not fit, since a byte is above p or a
+// team would be twice in a slot; the tables are no matter then.
 pub fn build(
     homes: &[u8],
     aways: &[u8],
     sheet: &[u8],
     p: usize,
-    home: &mut [Slots; Season::TEAMS],
-    away: &mut [Slots; Season::TEAMS],
-    meets: &mut [Slots; Season::PLACES],
-) -> Built
+    tables: &mut Tables,
+) -> Option<usize>
     requires { Teams most_teams homes.now aways.now × (length sheet.now ≡ length homes.now) × (p ≤ most_slots)
-        × Empty (tables home.old away.old meets.old) }
-    ensures { Builds p homes.now aways.now sheet.now result
-        (tables home.new away.new meets.new) }
+        × Empty tables.old }
+    ensures { Builds p homes.now aways.now sheet.now result tables.new }
 {
-    let mut unplaced: usize = 0;
-    let mut g = 0;
-    while g < homes.len() {
-        let b = sheet[g];
-        if p < b as usize {
-            return unfit();
+    let mut unplaced = 0;
+    for (g, &b) in sheet.iter().enumerate() {
+        if p < usize::from(b) {
+            return None;
         }
-        if !put(homes, aways, &mut *home, &mut *away, &mut *meets, g, b) {
-            return unfit();
+        if !tables.put(homes[g], aways[g], b) {
+            return None;
         }
         unplaced += no_slot(b);
-        g += 1;
     }
-    Built {
-        fits: true,
-        unplaced: unplaced,
-    }
+    Some(unplaced)
 }
 
 // Game g goes from its slot to that of byte b.
@@ -134,28 +48,16 @@ pub fn reslot(
     homes: &[u8],
     aways: &[u8],
     sheet: &[u8],
-    home: &mut [Slots; Season::TEAMS],
-    away: &mut [Slots; Season::TEAMS],
-    meets: &mut [Slots; Season::PLACES],
+    tables: &mut Tables,
     g: usize,
     b: u8,
 ) -> bool
-    requires { InRange most_teams homes.now aways.now sheet.now
-        × Fits most_teams true (tables home.old away.old meets.old) homes.now aways.now sheet.now
+    requires { InRange most_teams homes.now aways.now sheet.now × Fits most_teams true tables.old homes.now aways.now sheet.now
         × (g < length homes.now) × (b ≤ most_slots) }
-    ensures { Fits most_teams result (tables home.new away.new meets.new)
-        homes.now aways.now (set sheet.now g b) }
+    ensures { Fits most_teams result tables.new homes.now aways.now (set sheet.now g b) }
 {
-    take_out(
-        homes,
-        aways,
-        &mut *home,
-        &mut *away,
-        &mut *meets,
-        g,
-        sheet[g],
-    );
-    put(homes, aways, home, away, meets, g, b)
+    tables.take_out(homes[g], aways[g], sheet[g]);
+    tables.put(homes[g], aways[g], b)
 }
 
 // Games g and h exchange their slots.
@@ -163,23 +65,20 @@ pub fn swap(
     homes: &[u8],
     aways: &[u8],
     sheet: &[u8],
-    home: &mut [Slots; Season::TEAMS],
-    away: &mut [Slots; Season::TEAMS],
-    meets: &mut [Slots; Season::PLACES],
+    tables: &mut Tables,
     g: usize,
     h: usize,
 ) -> bool
-    requires { InRange most_teams homes.now aways.now sheet.now
-        × Fits most_teams true (tables home.old away.old meets.old) homes.now aways.now sheet.now
+    requires { InRange most_teams homes.now aways.now sheet.now × Fits most_teams true tables.old homes.now aways.now sheet.now
         × (g < length homes.now) × (h < length homes.now) × (g ≡ h → ⊥) }
-    ensures { Fits most_teams result (tables home.new away.new meets.new) homes.now aways.now
+    ensures { Fits most_teams result tables.new homes.now aways.now
         (set (set sheet.now g (get_or sheet.now h 0)) h (get_or sheet.now g 0)) }
 {
     let a = sheet[g];
     let b = sheet[h];
-    take_out(homes, aways, &mut *home, &mut *away, &mut *meets, g, a);
-    take_out(homes, aways, &mut *home, &mut *away, &mut *meets, h, b);
-    let first = put(homes, aways, &mut *home, &mut *away, &mut *meets, g, b);
-    let second = put(homes, aways, home, away, meets, h, a);
-    both(first, second)
+    tables.take_out(homes[g], aways[g], a);
+    tables.take_out(homes[h], aways[h], b);
+    let first = tables.put(homes[g], aways[g], b);
+    let second = tables.put(homes[h], aways[h], a);
+    first & second
 }
