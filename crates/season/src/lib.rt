@@ -6,42 +6,26 @@ ghost use Rattle.std.specs.Prelude.{◌≡◌, false, ◌∷◌, [], ◌+◌, �
 ghost use Rattle.robinx.specs.Season.{decode};
 ghost use Rattle.robinx.specs.Refusals.{sentence, sentence3, sentence4, sentence5, of_season};
 ghost use Rattle.reader.specs.Sizes.{sizes_of, Measured, out_of_range};
-ghost use Rattle.season.specs.Examination.{Examination, refused_by, further};
+ghost use Rattle.season.specs.Examination.{Examination};
 
-use robinx::{Constraint, Season};
+use robinx::{Refusal, Season};
 
-// The number of the first true sentence, or 0 and then the sizes and the number of deviations.
+// What the examination of an accepted season finds: its sizes and the number of deviations.
 #[derive(Clone, Copy)]
 pub struct Examined {
-    pub fault: u8,
     pub sizes: Season,
     pub entries: usize,
 }
 
-// A refusal with this number.
-pub fn refused_by(number: u8) -> Examined
-    ensures { result ≡ refused_by number }
-{
-    Examined {
-        fault: number,
-        sizes: Season {
-            teams: 0,
-            slots: 0,
-            games: 0,
-            constraints: 0,
-        },
-        entries: 0,
-    }
-}
-
 // Sentence 2.
+#[tactic(auto, unfolding(reader::specs::Sizes::out_of_range))]
 pub fn sizes_bad(z: Season) -> bool
     ensures { result ≡ out_of_range z }
 {
-    !(((2 <= z.teams) & (z.teams <= Season::TEAMS))
-        & ((1 <= z.slots) & (z.slots <= Season::SLOTS))
-        & (z.games <= Season::GAMES)
-        & (z.constraints <= Season::CONSTRAINTS))
+    !((2..=Season::TEAMS).contains(&z.teams)
+        && (1..=Season::SLOTS).contains(&z.slots)
+        && z.games <= Season::GAMES
+        && z.constraints <= Season::CONSTRAINTS)
 }
 
 // Sentence 3.
@@ -62,56 +46,38 @@ fn meetings_bad(season: &[u8], z: Season) -> bool
     games::games_bad(homes, aways, z.teams)
 }
 
-// One more constraint: a refusal by sentence 5, or its deviations counted.
-fn examine_next(x: Examined, k: Constraint) -> Examined
-    requires { (out_of_range x.sizes ≡ false) × (x.entries + 496 < 2 ^ 64) }
-    ensures { result ≡ further x k }
-{
-    let z = x.sizes;
-    if !kind_rules::obeys(k, z.teams, z.slots) {
-        return refused_by(5);
-    }
-    Examined {
-        fault: 0,
-        sizes: z,
-        entries: x.entries + kinds::entries_of(k),
-    }
-}
-
-// Sentence 5 and the number of deviations: one cursor goes from the first constraint to the last, or to one that breaks a rule.
-fn examine_constraints(season: &[u8], z: Season) -> Examined
+// Sentence 5 and the number of deviations, up to a constraint that breaks a rule.
+fn examine_constraints(season: &[u8], z: Season) -> Result<Examined, Refusal>
     requires { (Measured season.now z) × (out_of_range z ≡ false) }
     ensures { Examination (sentence 5 (sentence5 (decode season.now)) ∷ []) season.now result }
 {
-    let mut r = reader::cursor::start(season);
-    let mut x = Examined {
-        fault: 0,
-        sizes: z,
-        entries: 0,
-    };
-    while (r.at < z.constraints) & (x.fault == 0) {
-        x = examine_next(x, reader::cursor::read(r, z));
-        r = reader::cursor::forward(r, 1);
+    let mut entries = 0;
+    for k in 0..z.constraints {
+        let c = reader::cursor::constraint_of(season, z, k);
+        if !kind_rules::obeys(c, z.teams, z.slots) {
+            return Err(Refusal::BadConstraint);
+        }
+        entries += kinds::entries_of(c);
     }
-    x
+    Ok(Examined { sizes: z, entries })
 }
 
 // Any bytes, by sentences 1 to 5.
-pub fn examine(season: &[u8]) -> Examined
+pub fn examine(season: &[u8]) -> Result<Examined, Refusal>
     ensures { Examination (of_season season.now) season.now result }
 {
     if season.len() < 6 {
-        return refused_by(1);
+        return Err(Refusal::ShortSeason);
     }
     let z = reader::sizes(season);
     if sizes_bad(z) {
-        return refused_by(2);
+        return Err(Refusal::SizeOutOfRange);
     }
     if length_bad(season, z) {
-        return refused_by(3);
+        return Err(Refusal::SeasonLength);
     }
     if meetings_bad(season, z) {
-        return refused_by(4);
+        return Err(Refusal::BadGame);
     }
     examine_constraints(season, z)
 }

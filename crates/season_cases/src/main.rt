@@ -1,5 +1,5 @@
-// Reads test seasons on standard input, each after its length in two bytes, and prints for each the number that `examine` gives; after
-// 0 the number of deviations. cases.md says what each of them is.
+// Reads test seasons on standard input, each after its length in two bytes, and prints for each the number of the refusal, or 0 and
+// the number of deviations. cases.md says what each of them is.
 
 #![tactic(auto)]
 
@@ -11,12 +11,10 @@ use std::io;
 const MOST_BYTES: usize = 65536;
 
 fn print_case(rt: &impl Print, season: &[u8]) -> io::Result<()> {
-    let found = season::examine(season);
-    rt.print(found.fault)?;
-    if found.fault == 0 {
-        print!(rt; " {}", found.entries)?;
+    match season::examine(season) {
+        Ok(found) => println!(rt; "0 {}", found.entries),
+        Err(refusal) => println!(rt; "{}", refusal.number()),
     }
-    println!(rt)
 }
 
 // Prints the case at a place and gives the place after it. A case that the input cuts off is the last.

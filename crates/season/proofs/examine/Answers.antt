@@ -1,12 +1,12 @@
--- Each sentence is false where its test is left; the first that is taken gives its number.
+-- Each sentence is false where its test is left; the first that is taken gives the refusal.
 use mathlib.Core.Path.{◌≡◌, sym, ◌∙◌}
 use mathlib.Core.Bool.{false}
 use borrow.Author.Tests.{lt-ltb, le-ltb}
 use Rattle.robinx.specs.Season.{decode}
-use Rattle.robinx.specs.Refusals.{sentence1, sentence2, sentence3}
-use Rattle.reader.specs.Sizes.{Measured, out_of_range}
+use Rattle.robinx.specs.Refusals.{sentence1, sentence2, first_true}
+use Rattle.reader.specs.Sizes.{Measured}
 use Rattle.reader.proofs.Read.{sizes-tested}
-use Rattle.season.proofs.Found.{measured, fault-1, fault-2, fault-3, fault-4, fault-5}
+use Rattle.season.proofs.Found.{measured}
 use Rattle.season.proofs.examine.Goals as goal
 use Rattle.season.proofs.examine.Goals.{Else-length_bad, Else-season-lt6, Else-sizes_bad}
 
@@ -15,55 +15,52 @@ false-1 : (c : Else-season-lt6) → sentence1 c.args.season.now ≡ false
 unfolding sentence1
 false-1 c = le-ltb _ _ c.if-season-lt6.false
 
-in-range : (c : Else-sizes_bad) → out_of_range c.sizes-z.result ≡ false
-in-range c = sym c.sizes_bad.ensures ∙ c.if-sizes_bad.false
-
 false-2 : (c : Else-sizes_bad) → sentence2 (decode c.args.season.now) ≡ false
-false-2 c = sizes-tested c.args.season.now c.sizes-z.ensures ∙ in-range c
-
-false-3 : (c : Else-length_bad) → sentence3 c.args.season.now ≡ false
-false-3 c = sym c.length_bad.ensures ∙ c.if-length_bad.false
+false-2 c = sizes-tested c.args.season.now c.sizes-z.ensures ∙ sym c.if-sizes_bad.ensures
 
 whole : (c : Else-length_bad) → Measured c.args.season.now c.sizes-z.result
-whole c = measured c.args.season.now c.sizes-z.ensures (false-3 c)
+whole c = measured c.args.season.now c.sizes-z.ensures (sym c.if-length_bad.ensures)
 
 pub returns-then-season-lt6 : goal.returns-then-season-lt6
-unfolding sentence1
-returns-then-season-lt6 c = rw c.refused_by.ensures (fault-1 c.args.season.now (lt-ltb _ _ c.if-season-lt6.true))
+unfolding sentence1 first_true
+returns-then-season-lt6 c = record { fault = rw (lt-ltb _ _ c.if-season-lt6.true); found = tt }
 
 pub returns-then-sizes_bad : goal.returns-then-sizes_bad
+unfolding first_true
 returns-then-sizes_bad c =
-    rw c.refused_by-then-sizes_bad.ensures
-    (fault-2 c.args.season.now (false-1 (goal.at.returns-then-sizes_bad c).Else-season-lt6)
-    (sizes-tested c.args.season.now c.sizes-z.ensures ∙ (sym c.sizes_bad.ensures ∙ c.if-sizes_bad.true)))
+    record {
+      fault = rw (false-1 (goal.at.returns-then-sizes_bad c).Else-season-lt6, sizes-tested c.args.season.now c.sizes-z.ensures, ← c.if-sizes_bad.ensures);
+      found = tt;
+    }
 
 pub length_bad-requires : goal.length_bad-requires
-length_bad-requires c = (c.sizes-z.ensures, in-range (goal.at.length_bad-requires c).Else-sizes_bad)
+length_bad-requires c = (c.sizes-z.ensures, sym c.if-sizes_bad.ensures)
 
 pub returns-then-length_bad : goal.returns-then-length_bad
+unfolding first_true
 returns-then-length_bad c =
     let p = goal.at.returns-then-length_bad c in
-    rw c.refused_by-then-length_bad.ensures
-    (fault-3 c.args.season.now (false-1 p.Else-season-lt6) (false-2 p.Else-sizes_bad) (sym c.length_bad.ensures ∙ c.if-length_bad.true))
+    record { fault = rw (false-1 p.Else-season-lt6, false-2 p.Else-sizes_bad, ← c.if-length_bad.ensures); found = tt }
 
 pub meetings_bad-requires : goal.meetings_bad-requires
-meetings_bad-requires c =
-    let p = goal.at.meetings_bad-requires c in
-    (whole p.Else-length_bad, in-range p.Else-sizes_bad)
+meetings_bad-requires c = (whole (goal.at.meetings_bad-requires c).Else-length_bad, sym c.if-sizes_bad.ensures)
 
 pub returns-then-meetings_bad : goal.returns-then-meetings_bad
+unfolding first_true
 returns-then-meetings_bad c =
     let p = goal.at.returns-then-meetings_bad c in
-    rw c.refused_by-then-meetings_bad.ensures
-    (fault-4 c.args.season.now (false-1 p.Else-season-lt6) (false-2 p.Else-sizes_bad) (false-3 p.Else-length_bad) (sym c.meetings_bad.ensures ∙ c.if-meetings_bad.true))
+    record { fault = rw (false-1 p.Else-season-lt6, false-2 p.Else-sizes_bad, ← c.if-length_bad.ensures, ← c.if-meetings_bad.ensures); found = tt }
 
 pub examine_constraints-requires : goal.examine_constraints-requires
-examine_constraints-requires c =
-    let p = goal.at.examine_constraints-requires c in
-    (whole p.Else-length_bad, in-range p.Else-sizes_bad)
+examine_constraints-requires c = (whole (goal.at.examine_constraints-requires c).Else-length_bad, sym c.if-sizes_bad.ensures)
 
 pub returns : goal.returns
+unfolding first_true
 returns c =
     let p = goal.at.returns c in
-    let false-4 = sym c.meetings_bad.ensures ∙ c.if-meetings_bad.false in
-    fault-5 c.args.season.now (false-1 p.Else-season-lt6) (false-2 p.Else-sizes_bad) (false-3 p.Else-length_bad) false-4 c.examine_constraints.ensures
+    record {
+      fault =
+          c.examine_constraints.ensures.fault
+          ∙ rw (false-1 p.Else-season-lt6, false-2 p.Else-sizes_bad, ← c.if-length_bad.ensures, ← c.if-meetings_bad.ensures);
+      found = c.examine_constraints.ensures.found;
+    }

@@ -1,15 +1,7 @@
--- Where a turn begins the cursor is in the season, and the constraints before it are passed.
-use Rattle.std.proofs.Common.{◌-◌, ◌≡◌, ◌≤◌}
+-- The constraints before number k keep the rules, and their deviations are counted.
 use Rattle.robinx.specs.Season.{decode}
-use Rattle.season.proofs.Pass.{PassedTests}
+use Rattle.season.proofs.Pass.{Kept}
 use Rattle.season.proofs.examine_constraints.Given as goal
 
-abbrev pub invariant-loop-r : goal.invariant-loop-r
-invariant-loop-r l = record {
-  same : l.r.season.now ≡ l.season;
-  most : l.r.at ≤ l.z.constraints;
-  passed : PassedTests (decode l.season) l.z l.r.at l.x;
-}
-
-abbrev pub decreases-loop-r : goal.decreases-loop-r
-decreases-loop-r l = l.z.constraints - l.r.at
+abbrev pub invariant-loop-k : goal.invariant-loop-k
+invariant-loop-k l = Kept (decode l.season) l.k l.entries
