@@ -3,7 +3,7 @@
 use mathlib.Core.Path.{◌≡◌, refl, sym, ap, ◌∙◌}
 use mathlib.Core.List.{List}
 use mathlib.Core.Bool.{Bool, true, false, ◌&&◌, ◌||◌, not}
-use Prim.Native.Nat.{ℕ, zero, suc, ◌+◌, ◌≤◌}
+use Prim.Native.Nat.{ℕ, ◌+◌, ◌≤◌}
 use native.Mathlib.Omega.{arith}
 use lib.Dec.{eqb}
 use lib.ListN.{length}
@@ -18,117 +18,135 @@ use Rattle.robinx.proofs.Passed.{or_else, first-of-both}
 use Rattle.reader.specs.Sizes.{sizes_of, Measured}
 use Rattle.season.specs.Examination.{Examination}
 use Rattle.season.specs.declared.Examined.{Examined}
+use Rattle.robinx.specs.RefusalNumbers.{number_of, fault_of}
+use Rattle.robinx.specs.declared.Refusal.{Refusal}
+use Rattle.robinx.specs.declared.Refusal.TheVariants.{ShortSeason, SizeOutOfRange, SeasonLength, BadGame, BadConstraint, TooManyDeviations, BufferLength}
+use Rattle.robinx.specs.declared.Refusal.TheVariants.{BadSheet, NoSuchGame, NoSuchSlot, SameGame, UnplacedGame, TeamBusy}
+use Rattle.std.specs.Prelude.{Result, Ok, Err, Some, None}
 use Rattle.reader.proofs.Read.{slots_read, games-read, constraints-read}
 use Rattle.season.proofs.Found.{SoundSeason, no-fault}
 use Rattle.tables.specs.declared.Tables.{Tables}
 use Rattle.timetable.specs.OfSheet.{Teams, above, Builds}
-use Rattle.timetable.specs.declared.Built.{Built}
-use Rattle.admission.specs.Admission.{Admits, not_admitted}
+use Rattle.admission.specs.Admission.{Admits}
 
 -- a refusal says nothing of the tables
-refusal : {s : List ℕ} {b : Buffers} {t : Tables} (k : ℕ) → open_fault s b ≡ suc k → Admits s b (not_admitted (suc k)) t
-refusal k e = record { number = sym e; ready = λ z. absurd (omega arith) }
+refusal : {s : List ℕ} {b : Buffers} {t : Tables} (e : Refusal) → open_fault s b ≡ number_of e → Admits s b (Err e) t
+refusal e h = record { number = sym h; ready = tt }
 
-module _ (s : List ℕ) (b : Buffers) {r : Examined} (x : Examination (of_season s) s r) where
-  -- the first true one of sentences 7 and 8
-  abbrev of_rest : ℕ
-  of_rest = first_true (of_sheet (decode s) b.sheet (length b.ledger) (length b.tally))
+-- the first true one of sentences 7 and 8
+abbrev of_rest : List ℕ → Buffers → ℕ
+of_rest s b = first_true (of_sheet (decode s) b.sheet (length b.ledger) (length b.tally))
 
-  season-then-rest : open_fault s b ≡ or_else r.fault of_rest
-  unfolding open_fault
-  season-then-rest =
-      first-of-both (of_season s) (of_sheet (decode s) b.sheet (length b.ledger) (length b.tally)) tt
-      ∙ ap (λ (f : ℕ). or_else f of_rest) (sym x.fault)
+season-then-rest : (s : List ℕ) (b : Buffers) {r : Result Examined Refusal} → Examination (of_season s) s r
+    → open_fault s b ≡ or_else (fault_of r) (of_rest s b)
+unfolding open_fault
+season-then-rest s b x =
+    first-of-both (of_season s) (of_sheet (decode s) b.sheet (length b.ledger) (length b.tally)) tt
+    ∙ ap (λ (f : ℕ). or_else f (of_rest s b)) (sym x.fault)
 
-  -- a fault of the season comes first
-  pub season-refused : {t : Tables} → (r.fault ≡ 0 → ⊥) → Admits s b (not_admitted r.fault) t
-  season-refused {t} some = go r.fault season-then-rest some
-    where
-      go : (f : ℕ) → open_fault s b ≡ or_else f of_rest → (f ≡ 0 → ⊥) → Admits s b (not_admitted f) t
-      go zero e some = absurd (some refl)
-      go (suc k) e some = refusal k e
+-- a fault of the season comes first
+pub season-refused : (s : List ℕ) (b : Buffers) {e : Refusal} {t : Tables} → Examination (of_season s) s (Err e) → Admits s b (Err e) t
+season-refused s b {e} x = refusal e (season-then-rest s b x ∙ first e)
+  where
+    first : (e : Refusal) → or_else (number_of e) (of_rest s b) ≡ number_of e
+    first = elim [
+      | ShortSeason ↦ refl
+      | SizeOutOfRange ↦ refl
+      | SeasonLength ↦ refl
+      | BadGame ↦ refl
+      | BadConstraint ↦ refl
+      | TooManyDeviations ↦ refl
+      | BufferLength ↦ refl
+      | BadSheet ↦ refl
+      | NoSuchGame ↦ refl
+      | NoSuchSlot ↦ refl
+      | SameGame ↦ refl
+      | UnplacedGame ↦ refl
+      | TeamBusy ↦ refl
+    ]
 
-  module _ (none : r.fault ≡ 0) where
-    clean : first_true (of_season s) ≡ 0
-    clean = sym x.fault ∙ none
+module _ (s : List ℕ) (b : Buffers) {r : Examined} (x : Examination (of_season s) s (Ok r)) where
+  clean : first_true (of_season s) ≡ 0
+  clean = sym x.fault
 
-    sound-season : SoundSeason s
-    sound-season = no-fault s clean
+  sound-season : SoundSeason s
+  sound-season = no-fault s clean
 
-    rest : open_fault s b ≡ of_rest
-    rest = season-then-rest ∙ ap (λ (f : ℕ). or_else f of_rest) none
+  rest : open_fault s b ≡ of_rest s b
+  rest = season-then-rest s b x
 
-    abbrev z : Season
-    z = r.sizes
+  abbrev z : Season
+  z = r.sizes
 
-    e : z ≡ sizes_of s
-    e = x.sizes none
+  e : z ≡ sizes_of s
+  e = x.found.sizes
 
-    pub few-constraints : z.constraints ≤ most_constraints
-    few-constraints = omega (arith, constraints-read s e, sound-season.sound.constraints)
+  pub few-constraints : z.constraints ≤ most_constraints
+  few-constraints = omega (arith, constraints-read s e, sound-season.sound.constraints)
 
-    -- sentence 7, by what was read
-    abbrev pub misfit : Bool
-    misfit = not (eqb (length b.sheet) z.games && eqb (length b.ledger) r.entries && eqb (length b.tally) (z.constraints + 2))
+  -- sentence 7, by what was read
+  abbrev pub misfit : Bool
+  misfit = not (eqb (length b.sheet) z.games && eqb (length b.ledger) r.entries && eqb (length b.tally) (z.constraints + 2))
 
-    seven : sentence7 (decode s) (length b.sheet) (length b.ledger) (length b.tally) ≡ misfit
-    unfolding sentence7
-    seven = rw (games-read s e, constraints-read s e, x.entries none)
+  seven : sentence7 (decode s) (length b.sheet) (length b.ledger) (length b.tally) ≡ misfit
+  unfolding sentence7
+  seven = rw (games-read s e, constraints-read s e, x.found.entries)
 
-    pub lengths-refused : {t : Tables} → misfit ≡ true → Admits s b (not_admitted 7) t
-    unfolding first_true
-    lengths-refused h = refusal 6 (rest ∙ rw (seven, h))
+  pub lengths-refused : {t : Tables} → misfit ≡ true → Admits s b (Err BufferLength) t
+  unfolding first_true
+  lengths-refused h = refusal BufferLength (rest ∙ rw (seven, h))
 
-    module _ (fit : misfit ≡ false) where
-      whole : length b.sheet ≡ (decode s).G
-      whole =
-          let p = and_yes (eqb (length b.sheet) z.games && eqb (length b.ledger) r.entries) (eqb (length b.tally) (z.constraints + 2)) (not-false _ fit) in
-          let q = and_yes (eqb (length b.sheet) z.games) (eqb (length b.ledger) r.entries) p.0 in
-          eqb-true _ _ q.0 ∙ games-read s e
+  module _ (fit : misfit ≡ false) where
+    whole : length b.sheet ≡ (decode s).G
+    whole =
+        let p = and_yes (eqb (length b.sheet) z.games && eqb (length b.ledger) r.entries) (eqb (length b.tally) (z.constraints + 2)) (not-false _ fit) in
+        let q = and_yes (eqb (length b.sheet) z.games) (eqb (length b.ledger) r.entries) p.0 in
+        eqb-true _ _ q.0 ∙ games-read s e
 
-      -- sentence 8, by what was read
-      abbrev collides : Bool
-      collides = clash (decode s).home (decode s).away b.sheet
+    -- sentence 8, by what was read
+    abbrev collides : Bool
+    collides = clash (decode s).home (decode s).away b.sheet
 
-      abbrev bad : Bool
-      bad = above z.slots b.sheet || collides
+    abbrev bad : Bool
+    bad = above z.slots b.sheet || collides
 
-      eight : sentence8 (decode s) b.sheet ≡ bad
-      unfolding sentence8
-      eight = rw (slots_read s e, whole)
+    eight : sentence8 (decode s) b.sheet ≡ bad
+    unfolding sentence8
+    eight = rw (slots_read s e, whole)
 
-      -- what the build of the tables asks for
-      pub buildable : Measured s z × Teams most_teams (decode s).home (decode s).away × (length b.sheet ≡ length (decode s).home) × (z.slots ≤ most_slots)
-      buildable =
-          let ok = sound-season.sound in (
-            sound-season.measured e,
-            record {
-              few = omega arith;
-              aways-length = sound-season.aways ∙ sym sound-season.homes;
-              home-below = λ g l. omega (arith, (ok.game g (rw sound-season.homes at l)).home, ok.teams);
-              away-below = λ g l. omega (arith, (ok.game g (rw sound-season.homes at l)).away, ok.teams);
-              differ = λ g l. (ok.game g (rw sound-season.homes at l)).differ;
-            },
-            whole ∙ sym sound-season.homes,
-            omega (arith, ok.slots, slots_read s e),
-          )
+    -- what the build of the tables asks for
+    pub buildable : Measured s z × Teams most_teams (decode s).home (decode s).away × (length b.sheet ≡ length (decode s).home) × (z.slots ≤ most_slots)
+    buildable =
+        let ok = sound-season.sound in (
+          sound-season.measured e,
+          record {
+            few = omega arith;
+            aways-length = sound-season.aways ∙ sym sound-season.homes;
+            home-below = λ g l. omega (arith, (ok.game g (rw sound-season.homes at l)).home, ok.teams);
+            away-below = λ g l. omega (arith, (ok.game g (rw sound-season.homes at l)).away, ok.teams);
+            differ = λ g l. (ok.game g (rw sound-season.homes at l)).differ;
+          },
+          whole ∙ sym sound-season.homes,
+          omega (arith, ok.slots, slots_read s e),
+        )
 
-      -- .. and what it tells
-      module _ {v : Built} {t : Tables} (w : Builds z.slots (decode s).home (decode s).away b.sheet v t) where
-        pub sheet-refused : v.fits ≡ false → Admits s b (not_admitted 8) t
-        unfolding first_true
-        sheet-refused f = refusal 7 (rest ∙ rw (seven, fit, eight, not-false bad (sym w.answer ∙ f)))
+    -- .. and what it tells
+    module _ {t : Tables} where
+      pub sheet-refused : Builds z.slots (decode s).home (decode s).away b.sheet None t → Admits s b (Err BadSheet) t
+      unfolding first_true
+      sheet-refused w = refusal BadSheet (rest ∙ rw (seven, fit, eight, not-false bad (sym w.answer)))
 
-        pub admitted : v.fits ≡ true → Admits s b (record { fault = 0; sizes = z; unplaced = v.unplaced }) t
-        unfolding first_true
-        admitted f =
-            let good = not-true bad (sym w.answer ∙ f) in
-            record {
-              number = sym (rest ∙ rw (seven, fit, eight, good));
-              ready = λ _. record {
-                passed = rest ∙ rw (seven, fit, eight, good);
-                sizes = e;
-                tables = record { no-clash = sym (ap not (or_no (above z.slots b.sheet) collides good).1); shows = λ u. w.shows f };
-                count = rw (← sound-season.homes) (w.count f);
-              };
-            }
+      pub admitted : {u : ℕ} → Builds z.slots (decode s).home (decode s).away b.sheet (Some u) t → Admits s b (Ok (record { sizes = z; unplaced = u })) t
+      unfolding first_true
+      admitted w =
+          let good = not-true bad (sym w.answer) in
+          let passed : open_fault s b ≡ 0 = rest ∙ rw (seven, fit, eight, good) in
+          record {
+            number = sym passed;
+            ready = record {
+              passed = passed;
+              sizes = e;
+              tables = record { no-clash = sym (ap not (or_no (above z.slots b.sheet) collides good).1); shows = λ _. w.shows };
+              count = rw (← sound-season.homes) w.count;
+            };
+          }

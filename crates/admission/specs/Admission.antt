@@ -1,5 +1,5 @@
 -- What sentences 1 to 8 leave of a call: a refusal's number, or the sizes, the tables of its sheet and a count of its unplaced games.
-use Rattle.std.specs.Prelude.{◌≡◌, List, true, ℕ}
+use Rattle.std.specs.Prelude.{◌≡◌, List, true, ℕ, Result, IfOk}
 use Rattle.robinx.specs.Season.{Instance, decode, most_teams}
 use Rattle.robinx.specs.Calls.{Buffers, Outcome, Call, unless_refused, open_fault, reworked}
 use Rattle.robinx.specs.PlainSheet.{plain_fault}
@@ -7,7 +7,9 @@ use Rattle.robinx.specs.declared.Season.{Season}
 use Rattle.reader.specs.Sizes.{sizes_of}
 use Rattle.tables.specs.declared.Tables.{Tables}
 use Rattle.timetable.specs.OfSheet.{Fits, unplaced}
-use Rattle.admission.specs.declared.Admission.{Admission}
+use Rattle.robinx.specs.RefusalNumbers.{fault_of}
+use Rattle.robinx.specs.declared.Refusal.{Refusal}
+use Rattle.admission.specs.declared.Admitted.{Admitted}
 
 -- a call that has passed them: no sentence is true, and u games of the sheet, of which the tables are, have no slot
 pub record Ready (season : List ℕ) (b : Buffers) (z : Season) (u : ℕ) (t : Tables) : Type 0 where
@@ -16,13 +18,10 @@ pub record Ready (season : List ℕ) (b : Buffers) (z : Season) (u : ℕ) (t : T
   pub tables : Fits most_teams true t (decode season).home (decode season).away b.sheet
   pub count : u ≡ unplaced b.sheet (decode season).G
 
-pub record Admits (season : List ℕ) (b : Buffers) (r : Admission) (t : Tables) : Type 0 where
-  pub number : r.fault ≡ open_fault season b
-  pub ready : r.fault ≡ 0 → Ready season b r.sizes r.unplaced t
-
--- a refusal with this number
-abbrev pub not_admitted : ℕ → Admission
-not_admitted number = record { fault = number; sizes = record { teams = 0; slots = 0; games = 0; constraints = 0 }; unplaced = 0 }
+-- the number of the first true sentence, or 0 and then a call that has passed
+pub record Admits (season : List ℕ) (b : Buffers) (r : Result Admitted Refusal) (t : Tables) : Type 0 where
+  pub number : fault_of r ≡ open_fault season b
+  pub ready : IfOk r (λ a. Ready season b a.sizes a.unplaced t)
 
 -- what a set or an exchange that has passed them answers and leaves
 abbrev pub after_entry : Instance → Buffers → Call → Outcome

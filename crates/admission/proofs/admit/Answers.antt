@@ -1,53 +1,31 @@
 -- The tests in their order. Assumes nothing.
-use mathlib.Core.Path.{◌≡◌, sym, ◌∙◌}
-use mathlib.Core.Bool.{false}
-use Rattle.robinx.specs.Calls.{buffers}
-use Rattle.admission.proofs.Entry.{season-refused, few-constraints, misfit, lengths-refused, buildable, sheet-refused, admitted}
+use mathlib.Core.Path.{sym, ◌∙◌}
+use borrow.Author.Rules.{rules}
+use Rattle.robinx.specs.Calls.{Buffers, buffers}
+use Rattle.admission.proofs.Entry.{season-refused, few-constraints, lengths-refused, buildable, sheet-refused, admitted}
 use Rattle.admission.proofs.admit.Goals as goal
-use Rattle.admission.proofs.admit.Goals.{Else-lengths_bad}
+use Rattle.admission.proofs.admit.Goals.{Start}
 
-pub returns-then-e-ne0 : goal.returns-then-e-ne0
-returns-then-e-ne0 c =
-    rw c.not_admitted.ensures (season-refused c.args.season.now
-    (buffers c.args.sheet.now c.args.ledger.now c.args.tally.now)
-    c.examine-e.ensures c.if-e-ne0.true)
+abbrev lent : Start → Buffers
+lent c = buffers c.args.sheet.now c.args.ledger.now c.args.tally.now
+
+pub returns-in_err-found : goal.returns-in_err-found
+returns-in_err-found c =
+    let refused = season-refused _ (lent (goal.at.returns-in_err-found c).Start) {t = c.args.tables.now} c.in_err-found.ensures in search rules
 
 pub lengths_bad-requires : goal.lengths_bad-requires
-lengths_bad-requires c =
-    few-constraints c.args.season.now
-    (buffers c.args.sheet.now c.args.ledger.now c.args.tally.now)
-    c.examine-e.ensures c.if-e-ne0.false
+lengths_bad-requires c = few-constraints _ (lent (goal.at.lengths_bad-requires c).Start) c.in_ok-found.ensures
 
 pub returns-then-lengths_bad : goal.returns-then-lengths_bad
-returns-then-lengths_bad c =
-    rw c.not_admitted-then-lengths_bad.ensures
-    (lengths-refused c.args.season.now
-    (buffers c.args.sheet.now c.args.ledger.now c.args.tally.now)
-    c.examine-e.ensures c.if-e-ne0.false
-    (sym c.lengths_bad.ensures ∙ c.if-lengths_bad.true))
+returns-then-lengths_bad c = lengths-refused _ _ c.in_ok-found.ensures (sym c.lengths_bad.ensures ∙ c.if-lengths_bad.true)
 
--- past sentence 7 the buffers have their lengths
-fit : (c : Else-lengths_bad) → misfit c.args.season.now
-    (buffers c.args.sheet.now c.args.ledger.now c.args.tally.now)
-    c.examine-e.ensures c.if-e-ne0.false ≡ false
-fit c = sym c.lengths_bad.ensures ∙ c.if-lengths_bad.false
-
-pub lay_tables-b-requires : goal.lay_tables-b-requires
-lay_tables-b-requires c =
-    let may = buildable c.args.season.now
-    (buffers c.args.sheet.now c.args.ledger.now c.args.tally.now)
-    c.examine-e.ensures c.if-e-ne0.false (fit (goal.at.lay_tables-b-requires c).Else-lengths_bad) in
+pub lay_tables-requires : goal.lay_tables-requires
+lay_tables-requires c =
+    let may = buildable _ (lent (goal.at.lay_tables-requires c).Start) c.in_ok-found.ensures (sym c.lengths_bad.ensures ∙ c.if-lengths_bad.false) in
     (may.0, may.1, may.2, may.3, c.requires)
 
-pub returns-then-b : goal.returns-then-b
-returns-then-b c =
-    admitted c.args.season.now
-    (buffers c.args.sheet.now c.args.ledger.now c.args.tally.now)
-    c.examine-e.ensures c.if-e-ne0.false (fit (goal.at.returns-then-b c).Else-lengths_bad) c.lay_tables-b.ensures c.if-b.true
+pub returns-in-Some : goal.returns-in-Some
+returns-in-Some c = admitted _ _ c.in_ok-found.ensures (sym c.lengths_bad.ensures ∙ c.if-lengths_bad.false) c.in-Some.ensures
 
-pub returns : goal.returns
-returns c =
-    rw c.not_admitted-2.ensures
-    (sheet-refused c.args.season.now
-    (buffers c.args.sheet.now c.args.ledger.now c.args.tally.now)
-    c.examine-e.ensures c.if-e-ne0.false (fit (goal.at.returns c).Else-lengths_bad) c.lay_tables-b.ensures c.if-b.false)
+pub returns-in-None : goal.returns-in-None
+returns-in-None c = sheet-refused _ _ c.in_ok-found.ensures (sym c.lengths_bad.ensures ∙ c.if-lengths_bad.false) c.in-None.ensures
