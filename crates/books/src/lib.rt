@@ -5,14 +5,15 @@
 ghost use Rattle.std.specs.Prelude.{◌≡◌, ◌+◌, ◌-◌, ◌%◌, ◌^◌, length, get_or};
 ghost use Rattle.robinx.specs.Season.{decode};
 ghost use Rattle.robinx.specs.Calls.{moved_total};
-ghost use Rattle.tables.specs.Tables.{tables, x_of};
+ghost use Rattle.tables.specs.Tables.{x_of};
 ghost use Rattle.walk.specs.Walk.{Given, SoundTouch, is_touched, stored};
 ghost use Rattle.books.specs.Answer.{Opened, Answered};
 
 use replies::{accepted, verdict};
-use robinx::{Reply, Season, Slots};
+use robinx::{Reply, Season};
+use tables::Tables;
 use totals::Totals;
-use walk::{Moved, Touch, everything, walk};
+use walk::{Moved, Touch, walk};
 
 // Writes the two totals, which follow the penalties.
 fn store(totals: Totals, at: usize, tally: &mut [u64])
@@ -47,25 +48,14 @@ pub fn open(
     season: &[u8],
     z: Season,
     unplaced: usize,
-    home: &[Slots; Season::TEAMS],
-    away: &[Slots; Season::TEAMS],
-    meets: &[Slots; Season::PLACES],
+    tables: &Tables,
     ledger: &mut [u32],
     tally: &mut [u64],
 ) -> Reply
-    requires { Given season.now z (tables home.now away.now meets.now) ledger.old tally.old }
-    ensures { Opened (decode season.now) (x_of meets.now) unplaced ledger.new tally.new result }
+    requires { Given season.now z tables.now ledger.old tally.old }
+    ensures { Opened (decode season.now) (x_of tables.now.meets) unplaced ledger.new tally.new result }
 {
-    let moved = walk(
-        season,
-        z,
-        everything(),
-        home,
-        away,
-        meets,
-        ledger,
-        &mut *tally,
-    );
+    let moved = walk(season, z, Touch::Everything, tables, ledger, tally);
     let totals = moved.gained;
     store(totals, z.constraints, tally);
     accepted(verdict(unplaced, totals.hard), totals)
@@ -77,18 +67,16 @@ pub fn rework(
     z: Season,
     touch: Touch,
     unplaced: usize,
-    home: &[Slots; Season::TEAMS],
-    away: &[Slots; Season::TEAMS],
-    meets: &[Slots; Season::PLACES],
+    tables: &Tables,
     ledger: &mut [u32],
     tally: &mut [u64],
 ) -> Reply
-    requires { Given season.now z (tables home.now away.now meets.now) ledger.old tally.old × SoundTouch touch }
+    requires { Given season.now z tables.now ledger.old tally.old × SoundTouch touch }
     ensures { Answered (decode season.now) (λ k. is_touched touch ((decode season.now).constraint k))
-        (x_of meets.now) unplaced ledger.old tally.old ledger.new tally.new result }
+        (x_of tables.now.meets) unplaced ledger.old tally.old ledger.new tally.new result }
 {
-    let moved = walk(season, z, touch, home, away, meets, ledger, &mut *tally);
+    let moved = walk(season, z, touch, tables, ledger, tally);
     let at = z.constraints;
-    let change = settle(moved, at, &mut *tally);
+    let change = settle(moved, at, tally);
     accepted(verdict(unplaced, tally[at]), change)
 }

@@ -10,13 +10,14 @@ ghost use Rattle.robinx.specs.Timetable.{first_modes};
 ghost use Rattle.robinx.specs.Rules.{obeys};
 ghost use Rattle.robinx.specs.Deviations.{over, off_target, breaks, dev_br1, dev_br2};
 ghost use Rattle.masks.specs.Masks.{Within, is_break};
-ghost use Rattle.tables.specs.Tables.{tables, Tied, x_of};
+ghost use Rattle.tables.specs.Tables.{Tied, x_of};
 ghost use Rattle.opponents.specs.Fillable.{Fillable};
 
-use groups::Members;
+use groups::fill::{fill_each, total};
 use masks::{breaks_in, union};
-use opponents::measure::{asks_away, asks_home, first_modes, less, mode_sides};
+use opponents::measure::{Sides, first_modes};
 use robinx::{Constraint, Season, Slots};
+use tables::Tables;
 
 // The breaks of a side in the slots of s, where it is asked for.
 fn breaks_if(asked: bool, side: Slots, all: Slots, s: Slots) -> u32
@@ -29,93 +30,66 @@ fn breaks_if(asked: bool, side: Slots, all: Slots, s: Slots) -> u32
 // A team's breaks of the mode's sides in S.
 fn team_breaks(
     c: Constraint,
-    n: usize,
-    p: usize,
-    home: &[Slots; Season::TEAMS],
-    away: &[Slots; Season::TEAMS],
-    meets: &[Slots; Season::PLACES],
+    z: Season,
+    tables: &Tables,
     t: usize,
 ) -> u32
-    requires { (n ≤ most_teams) × (p ≤ most_slots) × (t < n) × (obeys n p c ≡ true) × Tied n (tables home.now away.now meets.now) }
-    ensures { (result ≡ breaks n p c (x_of meets.now) t) × (result ≤ 2 * most_slots) }
+    requires { (z.teams ≤ most_teams) × (z.slots ≤ most_slots) × (t < z.teams) × (obeys z.teams z.slots c ≡ true) × Tied z.teams tables.now }
+    ensures { (result ≡ breaks z.teams z.slots c (x_of tables.now.meets) t) × (result ≤ 2 * most_slots) }
 {
-    let h = home[t];
-    let a = away[t];
-    let sides = mode_sides(c.mode);
+    let h = tables.home[t];
+    let a = tables.away[t];
+    let sides = Sides::of_mode(c.mode);
     let all = union(h, a);
-    breaks_if(asks_home(sides), h, all, c.s) + breaks_if(asks_away(sides), a, all, c.s)
+    breaks_if(sides.asks_home(), h, all, c.s) + breaks_if(sides.asks_away(), a, all, c.s)
 }
 
 // How far a count of breaks is off kmax: modes 1 to 3 allow fewer.
 fn off_target(mode: u8, kmax: u8, v: u32) -> u32
     ensures { result ≡ off_target (first_modes mode) kmax v }
 {
-    let more = less(v, kmax as u32);
+    let most = u32::from(kmax);
     if first_modes(mode) {
-        return more;
+        v.saturating_sub(most)
+    } else {
+        v.abs_diff(most)
     }
-    less(kmax as u32, v) + more
 }
 
 // The deviations of BR1, from one team of the group to the next.
 pub fn fill_breaks(
     c: Constraint,
-    n: usize,
-    p: usize,
-    home: &[Slots; Season::TEAMS],
-    away: &[Slots; Season::TEAMS],
-    meets: &[Slots; Season::PLACES],
+    z: Season,
+    tables: &Tables,
     out: &mut [u32],
 )
-    requires { Fillable n p c (tables home.now away.now meets.now) out.old × (c.kind ≡ 31) }
-    ensures { out.new ≡ dev_br1 n p c (x_of meets.now) }
+    requires { Fillable z.teams z.slots c tables.now out.old × (c.kind ≡ 31) }
+    ensures { out.new ≡ dev_br1 z.teams z.slots c (x_of tables.now.meets) }
 {
-    let mut at = 0;
-    let mut m = Members::of(c.t1);
-    while m.rest != 0 {
-        m = m.next();
-        out[at] = off_target(
-            c.mode,
-            c.kmax,
-            team_breaks(c, n, p, home, away, meets, m.team),
-        );
-        at += 1;
-    }
+    fill_each(c.t1, |t| off_target(c.mode, c.kmax, team_breaks(c, z, tables, t)), out);
 }
 
 // The breaks of all teams of the group.
 fn group_breaks(
     c: Constraint,
-    n: usize,
-    p: usize,
-    home: &[Slots; Season::TEAMS],
-    away: &[Slots; Season::TEAMS],
-    meets: &[Slots; Season::PLACES],
+    z: Season,
+    tables: &Tables,
 ) -> u32
-    requires { (n ≤ most_teams) × (p ≤ most_slots) × (obeys n p c ≡ true) × Tied n (tables home.now away.now meets.now) }
-    ensures { result ≡ sum_to (λ t. only (has c.t1 t) (breaks n p c (x_of meets.now) t)) n }
+    requires { (z.teams ≤ most_teams) × (z.slots ≤ most_slots) × (obeys z.teams z.slots c ≡ true) × Tied z.teams tables.now }
+    ensures { result ≡ sum_to (λ t. only (has c.t1 t) (breaks z.teams z.slots c (x_of tables.now.meets) t)) z.teams }
 {
-    let mut v: u32 = 0;
-    let mut m = Members::of(c.t1);
-    while m.rest != 0 {
-        m = m.next();
-        v += team_breaks(c, n, p, home, away, meets, m.team);
-    }
-    v
+    total(c.t1, |t| team_breaks(c, z, tables, t))
 }
 
 // The deviation of BR2.
 pub fn fill_all_breaks(
     c: Constraint,
-    n: usize,
-    p: usize,
-    home: &[Slots; Season::TEAMS],
-    away: &[Slots; Season::TEAMS],
-    meets: &[Slots; Season::PLACES],
+    z: Season,
+    tables: &Tables,
     out: &mut [u32],
 )
-    requires { Fillable n p c (tables home.now away.now meets.now) out.old × (c.kind ≡ 32) }
-    ensures { out.new ≡ dev_br2 n p c (x_of meets.now) }
+    requires { Fillable z.teams z.slots c tables.now out.old × (c.kind ≡ 32) }
+    ensures { out.new ≡ dev_br2 z.teams z.slots c (x_of tables.now.meets) }
 {
-    out[0] = off_target(c.mode, c.kmax, group_breaks(c, n, p, home, away, meets));
+    out[0] = off_target(c.mode, c.kmax, group_breaks(c, z, tables));
 }

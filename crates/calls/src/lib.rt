@@ -4,23 +4,24 @@
 
 ghost use Rattle.std.specs.Prelude.{◌≡◌, ◌<◌, ◌≤◌, length};
 ghost use Rattle.robinx.specs.Refusals.{first_true, sentence12};
+ghost use Rattle.robinx.specs.RefusalNumbers.{fault_of};
 ghost use Rattle.calls.specs.CallNumbers.{set_numbers, exchange_numbers};
 ghost use Rattle.calls.specs.Moves.{move_of};
 
-use robinx::Season;
+use robinx::{Refusal, Season};
 use touch::Move;
 
-// Sentences 9 and 10 of a set: the number of the first true one, or 0.
-pub fn set_fault(z: Season, game: u64, slot: u64) -> u8
-    ensures { result ≡ first_true (set_numbers z game slot) }
+// Sentences 9 and 10 of a set, in their order.
+pub fn set_fault(z: Season, game: u64, slot: u64) -> Result<(), Refusal>
+    ensures { fault_of result ≡ first_true (set_numbers z game slot) }
 {
     if z.games as u64 <= game {
-        return 9;
+        return Err(Refusal::NoSuchGame);
     }
     if (z.slots as u64) < slot {
-        return 10;
+        return Err(Refusal::NoSuchSlot);
     }
-    0
+    Ok(())
 }
 
 // One of the two games has no slot.
@@ -31,24 +32,24 @@ fn unplaced_pair(sheet: &[u8], g: usize, h: usize) -> bool
     (sheet[g] == 0) | (sheet[h] == 0)
 }
 
-// Sentences 9, 11 and 12 of an exchange, in the same way.
-pub fn exchange_fault(z: Season, sheet: &[u8], game: u64, other: u64) -> u8
+// Sentences 9, 11 and 12 of an exchange, in their order.
+pub fn exchange_fault(z: Season, sheet: &[u8], game: u64, other: u64) -> Result<(), Refusal>
     requires { z.games ≤ length sheet.now }
-    ensures { result ≡ first_true (exchange_numbers z sheet.now game other) }
+    ensures { fault_of result ≡ first_true (exchange_numbers z sheet.now game other) }
 {
     if z.games as u64 <= game {
-        return 9;
+        return Err(Refusal::NoSuchGame);
     }
     if z.games as u64 <= other {
-        return 9;
+        return Err(Refusal::NoSuchGame);
     }
     if game == other {
-        return 11;
+        return Err(Refusal::SameGame);
     }
     if unplaced_pair(sheet, game as usize, other as usize) {
-        return 12;
+        return Err(Refusal::UnplacedGame);
     }
-    0
+    Ok(())
 }
 
 // Game g goes from one slot to another.

@@ -5,25 +5,19 @@
 ghost use Rattle.std.specs.Prelude.{◌≡◌};
 ghost use Rattle.robinx.specs.Calls.{buffers, outcome, open_call, set_call, exchange_call};
 
-use robinx::{Reply, Season, Slots};
+use robinx::Reply;
+use tables::Tables;
 
 // Checks a proposed sheet and fills ledger and tally.
 pub fn season_open(season: &[u8], sheet: &[u8], ledger: &mut [u32], tally: &mut [u64]) -> Reply
     ensures { outcome result (buffers sheet.now ledger.new tally.new)
         ≡ open_call season.now (buffers sheet.now ledger.old tally.old) }
 {
-    let mut home = [masks::NONE; Season::TEAMS];
-    let mut away = [masks::NONE; Season::TEAMS];
-    let mut meets = [masks::NONE; Season::PLACES];
-    let a = admission::admit(
-        season, sheet, &*ledger, &*tally, &mut home, &mut away, &mut meets,
-    );
-    if a.fault != 0 {
-        return replies::declined(a.fault);
+    let mut tables = Tables::new();
+    match admission::admit(season, sheet, ledger, tally, &mut tables) {
+        Ok(a) => books::open(season, a.sizes, a.unplaced, &tables, ledger, tally),
+        Err(refusal) => replies::declined(refusal),
     }
-    books::open(
-        season, a.sizes, a.unplaced, &home, &away, &meets, ledger, tally,
-    )
 }
 
 // Gives a game a slot; slot 0 takes it out.
@@ -38,19 +32,13 @@ pub fn season_set(
     ensures { outcome result (buffers sheet.new ledger.new tally.new)
         ≡ set_call season.now (buffers sheet.old ledger.old tally.old) game slot }
 {
-    let mut home = [masks::NONE; Season::TEAMS];
-    let mut away = [masks::NONE; Season::TEAMS];
-    let mut meets = [masks::NONE; Season::PLACES];
-    let a = admission::admit(
-        season, &*sheet, &*ledger, &*tally, &mut home, &mut away, &mut meets,
-    );
-    if a.fault != 0 {
-        return replies::declined(a.fault);
+    let mut tables = Tables::new();
+    match admission::admit(season, sheet, ledger, tally, &mut tables) {
+        Ok(a) => sets::set(
+            season, a.sizes, sheet, a.unplaced, &mut tables, ledger, tally, game, slot,
+        ),
+        Err(refusal) => replies::declined(refusal),
     }
-    sets::set(
-        season, a.sizes, sheet, a.unplaced, &mut home, &mut away, &mut meets, ledger, tally, game,
-        slot,
-    )
 }
 
 // Exchanges the slots of two placed games.
@@ -65,17 +53,11 @@ pub fn season_exchange(
     ensures { outcome result (buffers sheet.new ledger.new tally.new)
         ≡ exchange_call season.now (buffers sheet.old ledger.old tally.old) game other }
 {
-    let mut home = [masks::NONE; Season::TEAMS];
-    let mut away = [masks::NONE; Season::TEAMS];
-    let mut meets = [masks::NONE; Season::PLACES];
-    let a = admission::admit(
-        season, &*sheet, &*ledger, &*tally, &mut home, &mut away, &mut meets,
-    );
-    if a.fault != 0 {
-        return replies::declined(a.fault);
+    let mut tables = Tables::new();
+    match admission::admit(season, sheet, ledger, tally, &mut tables) {
+        Ok(a) => exchanges::exchange(
+            season, a.sizes, sheet, a.unplaced, &mut tables, ledger, tally, game, other,
+        ),
+        Err(refusal) => replies::declined(refusal),
     }
-    exchanges::exchange(
-        season, a.sizes, sheet, a.unplaced, &mut home, &mut away, &mut meets, ledger, tally, game,
-        other,
-    )
 }

@@ -6,16 +6,17 @@ ghost use Rattle.std.specs.Prelude.{◌≡◌, ◌<◌, ◌≤◌};
 ghost use Rattle.robinx.specs.Season.{most_teams, most_slots};
 ghost use Rattle.robinx.specs.Groups.{bit};
 ghost use Rattle.robinx.specs.Deviations.{deviations};
-ghost use Rattle.tables.specs.Tables.{tables, x_of};
+ghost use Rattle.tables.specs.Tables.{x_of};
 ghost use Rattle.opponents.specs.Fillable.{Fillable, TiedGroup};
 ghost use Rattle.opponents.specs.Games.{MaskOf};
 ghost use Rattle.counts.specs.TeamCounts.{FromZero, rivals, counted, off_runs};
 
-use groups::Members;
+use groups::fill::fill_each;
 use masks::count_in;
 use opponents::against;
-use opponents::measure::{mode_sides, outside};
-use robinx::{Constraint, Season, Slots};
+use opponents::measure::{Sides, outside};
+use robinx::{Constraint, Kind, Season, Slots};
+use tables::Tables;
 use rows::{lay_at, runs};
 
 // The teams against which games count: all of them in CA1, those of T2 in CA2 and CA3.
@@ -23,11 +24,9 @@ fn rivals(c: Constraint, n: usize) -> u32
     requires { (1 ≤ n) × (n ≤ most_teams) × (11 ≤ c.kind) × (c.kind ≤ 13) }
     ensures { result ≡ rivals n c }
 {
-    let kind = c.kind;
-    match kind {
-        11 => groups::everyone(n),
-        12 | 13 => c.t2,
-        _ => 0,
+    match Kind::of(c.kind) {
+        Kind::Ca1 => groups::everyone(n),
+        _ => c.t2,
     }
 }
 
@@ -35,41 +34,30 @@ fn rivals(c: Constraint, n: usize) -> u32
 fn counted(
     c: Constraint,
     n: usize,
-    home: &[Slots; Season::TEAMS],
-    away: &[Slots; Season::TEAMS],
-    meets: &[Slots; Season::PLACES],
+    tables: &Tables,
     t: usize,
 ) -> Slots
-    requires { (t < n) × (1 ≤ c.mode) × (11 ≤ c.kind) × (c.kind ≤ 13) × TiedGroup n c.t2 (tables home.now away.now meets.now) }
-    ensures { MaskOf (counted n c (x_of meets.now) t) result }
+    requires { (t < n) × (1 ≤ c.mode) × (11 ≤ c.kind) × (c.kind ≤ 13) × TiedGroup n c.t2 tables.now }
+    ensures { MaskOf (counted n c (x_of tables.now.meets) t) result }
 {
-    against(meets, home, away, mode_sides(c.mode), rivals(c, n), t, n)
+    against(tables, Sides::of_mode(c.mode), rivals(c, n), t, n)
 }
 
 // CA1 and CA2: how far the mask's count in S is outside kmin .. kmax.
 pub fn fill_counts(
     c: Constraint,
-    n: usize,
-    p: usize,
-    home: &[Slots; Season::TEAMS],
-    away: &[Slots; Season::TEAMS],
-    meets: &[Slots; Season::PLACES],
+    z: Season,
+    tables: &Tables,
     out: &mut [u32],
 )
-    requires { Fillable n p c (tables home.now away.now meets.now) out.old × (11 ≤ c.kind) × (c.kind ≤ 12) }
-    ensures { out.new ≡ deviations n p c (x_of meets.now) }
+    requires { Fillable z.teams z.slots c tables.now out.old × (11 ≤ c.kind) × (c.kind ≤ 12) }
+    ensures { out.new ≡ deviations z.teams z.slots c (x_of tables.now.meets) }
 {
-    let mut at = 0;
-    let mut m = Members::of(c.t1);
-    while m.rest != 0 {
-        m = m.next();
-        out[at] = outside(
-            c.kmin,
-            c.kmax,
-            count_in(counted(c, n, home, away, meets, m.team), c.s),
-        );
-        at += 1;
-    }
+    fill_each(
+        c.t1,
+        |t| outside(c.kmin, c.kmax, count_in(counted(c, z.teams, tables, t), c.s)),
+        out,
+    );
 }
 
 // How far the mask's counts in the runs of w of the first p slots are outside kmin .. kmax, summed.
@@ -88,22 +76,19 @@ fn runs_of(c: Constraint, p: usize, mask: Slots, rows: &mut [u8; rows::PLACES]) 
 // CA3. Its running counts are laid from place 1 on.
 pub fn fill_runs(
     c: Constraint,
-    n: usize,
-    p: usize,
-    home: &[Slots; Season::TEAMS],
-    away: &[Slots; Season::TEAMS],
-    meets: &[Slots; Season::PLACES],
+    z: Season,
+    tables: &Tables,
     out: &mut [u32],
 )
-    requires { Fillable n p c (tables home.now away.now meets.now) out.old × (c.kind ≡ 13) }
-    ensures { out.new ≡ deviations n p c (x_of meets.now) }
+    requires { Fillable z.teams z.slots c tables.now out.old × (c.kind ≡ 13) }
+    ensures { out.new ≡ deviations z.teams z.slots c (x_of tables.now.meets) }
 {
     let mut rows = [0u8; rows::PLACES];
     let mut at = 0;
     let mut m = Members::of(c.t1);
     while m.rest != 0 {
         m = m.next();
-        out[at] = runs_of(c, p, counted(c, n, home, away, meets, m.team), &mut rows);
+        out[at] = runs_of(c, p, counted(c, n, tables, m.team), &mut rows);
         at += 1;
     }
 }

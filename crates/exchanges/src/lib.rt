@@ -5,12 +5,12 @@
 ghost use Rattle.std.specs.Prelude.{◌≡◌, false, ◌||◌, ◌<◌, eqb, get_or};
 ghost use Rattle.robinx.specs.Season.{decode};
 ghost use Rattle.robinx.specs.Calls.{exchange, buffers, outcome};
-ghost use Rattle.tables.specs.Tables.{tables};
 ghost use Rattle.admission.specs.Admission.{Ready, after_entry};
 
 use calls::{exchange_fault, move_of};
 use replies::declined;
-use robinx::{Reply, Season, Slots};
+use robinx::{Refusal, Reply, Season};
+use tables::Tables;
 use walk::moves;
 
 // Games g and h exchange their slots, if their teams are free there.
@@ -19,15 +19,13 @@ fn swap(
     z: Season,
     sheet: &mut [u8],
     unplaced: usize,
-    home: &mut [Slots; Season::TEAMS],
-    away: &mut [Slots; Season::TEAMS],
-    meets: &mut [Slots; Season::PLACES],
+    tables: &mut Tables,
     ledger: &mut [u32],
     tally: &mut [u64],
     g: usize,
     h: usize,
 ) -> Reply
-    requires { Ready season.now (buffers sheet.old ledger.old tally.old) z unplaced (tables home.old away.old meets.old)
+    requires { Ready season.now (buffers sheet.old ledger.old tally.old) z unplaced tables.old
         × (g < (decode season.now).G) × (h < (decode season.now).G) × (g ≡ h → ⊥)
         × (eqb (get_or sheet.old g 0) 0 || eqb (get_or sheet.old h 0) 0 ≡ false) }
     ensures { outcome result (buffers sheet.new ledger.new tally.new)
@@ -40,10 +38,8 @@ fn swap(
     if timetable::swap(
         homes,
         aways,
-        &*sheet,
-        &mut *home,
-        &mut *away,
-        &mut *meets,
+        sheet,
+        tables,
         g,
         h,
     ) {
@@ -56,14 +52,12 @@ fn swap(
             z,
             moves(first, second),
             unplaced,
-            &*home,
-            &*away,
-            &*meets,
+            tables,
             ledger,
             tally,
         );
     }
-    declined(13)
+    declined(Refusal::TeamBusy)
 }
 
 // Exchange, once sentences 1 to 8 are passed.
@@ -72,33 +66,28 @@ pub fn exchange(
     z: Season,
     sheet: &mut [u8],
     unplaced: usize,
-    home: &mut [Slots; Season::TEAMS],
-    away: &mut [Slots; Season::TEAMS],
-    meets: &mut [Slots; Season::PLACES],
+    tables: &mut Tables,
     ledger: &mut [u32],
     tally: &mut [u64],
     game: u64,
     other: u64,
 ) -> Reply
-    requires { Ready season.now (buffers sheet.old ledger.old tally.old) z unplaced (tables home.old away.old meets.old) }
+    requires { Ready season.now (buffers sheet.old ledger.old tally.old) z unplaced tables.old }
     ensures { outcome result (buffers sheet.new ledger.new tally.new)
         ≡ after_entry (decode season.now) (buffers sheet.old ledger.old tally.old) (exchange game other) }
 {
-    let fault = exchange_fault(z, &*sheet, game, other);
-    if fault != 0 {
-        return declined(fault);
+    match exchange_fault(z, sheet, game, other) {
+        Ok(()) => swap(
+            season,
+            z,
+            sheet,
+            unplaced,
+            tables,
+            ledger,
+            tally,
+            game as usize,
+            other as usize,
+        ),
+        Err(refusal) => declined(refusal),
     }
-    swap(
-        season,
-        z,
-        sheet,
-        unplaced,
-        home,
-        away,
-        meets,
-        ledger,
-        tally,
-        game as usize,
-        other as usize,
-    )
 }

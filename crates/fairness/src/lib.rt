@@ -7,7 +7,7 @@ ghost use Rattle.robinx.specs.Season.{most_teams, most_slots};
 ghost use Rattle.robinx.specs.Groups.{has, size, pairs};
 ghost use Rattle.robinx.specs.Deviations.{each, each_pair, dev_fa1, dev_fa2};
 ghost use Rattle.robinx.proofs.Filled.{FilledRows};
-ghost use Rattle.tables.specs.Tables.{tables, x_of};
+ghost use Rattle.tables.specs.Tables.{x_of};
 ghost use Rattle.rows.specs.Rows.{places, laid_at};
 ghost use Rattle.opponents.specs.Fillable.{Fillable, TiedGroup};
 ghost use Rattle.fairness.specs.RunningCounts.{running, Counted, rows_apart, sides_apart};
@@ -22,15 +22,13 @@ fn lay_games(
     sides: u8,
     group: u32,
     n: usize,
-    home: &[Slots; Season::TEAMS],
-    away: &[Slots; Season::TEAMS],
-    meets: &[Slots; Season::PLACES],
+    tables: &Tables,
     t: usize,
     rows: &mut [u8; rows::PLACES],
     r: usize,
 )
-    requires { (t < n) × (r < most_teams) × TiedGroup n group (tables home.now away.now meets.now) }
-    ensures { rows.new ≡ laid_at rows.old (r * most_slots) (running n (x_of meets.now) sides group t) most_slots }
+    requires { (t < n) × (r < most_teams) × TiedGroup n group tables.now }
+    ensures { rows.new ≡ laid_at rows.old (r * most_slots) (running n (x_of tables.now.meets) sides group t) most_slots }
 {
     rows::lay_at(
         against(meets, home, away, sides, group, t, n),
@@ -61,19 +59,17 @@ fn imbalance(
     group: u32,
     kmax: u8,
     n: usize,
-    home: &[Slots; Season::TEAMS],
-    away: &[Slots; Season::TEAMS],
-    meets: &[Slots; Season::PLACES],
+    tables: &Tables,
     e: &[u8; Season::SLOTS],
     rows: &mut [u8; rows::PLACES],
     t: usize,
 ) -> u32
-    requires { (t < n) × (length rows.old ≡ places) × TiedGroup n group (tables home.now away.now meets.now) }
-    ensures { (result ≡ sides_apart n (x_of meets.now) group e.now kmax t)
+    requires { (t < n) × (length rows.old ≡ places) × TiedGroup n group tables.now }
+    ensures { (result ≡ sides_apart n (x_of tables.now.meets) group e.now kmax t)
         × (length rows.new ≡ places) }
 {
-    lay_games(1, group, n, home, away, meets, t, rows, 0);
-    lay_games(2, group, n, home, away, meets, t, rows, 1);
+    lay_games(1, group, n, tables, t, rows, 0);
+    lay_games(2, group, n, tables, t, rows, 1);
     rows_apart(rows, e, kmax, 0, 1)
 }
 
@@ -81,21 +77,19 @@ fn fill_teams(
     group: u32,
     kmax: u8,
     n: usize,
-    home: &[Slots; Season::TEAMS],
-    away: &[Slots; Season::TEAMS],
-    meets: &[Slots; Season::PLACES],
+    tables: &Tables,
     e: &[u8; Season::SLOTS],
     rows: &mut [u8; rows::PLACES],
     out: &mut [u32],
 )
-    requires { (length rows.old ≡ places) × (length out.old ≡ size n group) × TiedGroup n group (tables home.now away.now meets.now) }
-    ensures { out.new ≡ each n group (sides_apart n (x_of meets.now) group e.now kmax) }
+    requires { (length rows.old ≡ places) × (length out.old ≡ size n group) × TiedGroup n group tables.now }
+    ensures { out.new ≡ each n group (sides_apart n (x_of tables.now.meets) group e.now kmax) }
 {
     let mut at: usize = 0;
     let mut m = Members::of(group);
     while m.rest != 0 {
         m = m.next();
-        out[at] = imbalance(group, kmax, n, home, away, meets, e, rows, m.team);
+        out[at] = imbalance(group, kmax, n, tables, e, rows, m.team);
         at += 1;
     }
 }
@@ -103,20 +97,17 @@ fn fill_teams(
 // FA1.
 pub fn fill_fa1(
     c: Constraint,
-    n: usize,
-    p: usize,
-    home: &[Slots; Season::TEAMS],
-    away: &[Slots; Season::TEAMS],
-    meets: &[Slots; Season::PLACES],
+    z: Season,
+    tables: &Tables,
     out: &mut [u32],
 )
-    requires { Fillable n p c (tables home.now away.now meets.now) out.old × (c.kind ≡ 41) }
-    ensures { out.new ≡ dev_fa1 n p c (x_of meets.now) }
+    requires { Fillable z.teams z.slots c tables.now out.old × (c.kind ≡ 41) }
+    ensures { out.new ≡ dev_fa1 z.teams z.slots c (x_of tables.now.meets) }
 {
     let mut e = [0u8; Season::SLOTS];
     rows::spread(c.s, &mut e);
     let mut rows = [0u8; rows::PLACES];
-    fill_teams(c.t1, c.kmax, n, home, away, meets, &e, &mut rows, out);
+    fill_teams(c.t1, c.kmax, n, tables, &e, &mut rows, out);
 }
 
 // The rows of all teams of the group, each at its own place.
@@ -124,18 +115,16 @@ fn lay_teams(
     sides: u8,
     group: u32,
     n: usize,
-    home: &[Slots; Season::TEAMS],
-    away: &[Slots; Season::TEAMS],
-    meets: &[Slots; Season::PLACES],
+    tables: &Tables,
     rows: &mut [u8; rows::PLACES],
 )
-    requires { (length rows.old ≡ places) × TiedGroup n group (tables home.now away.now meets.now) }
-    ensures { Counted n (x_of meets.now) sides group rows.new n }
+    requires { (length rows.old ≡ places) × TiedGroup n group tables.now }
+    ensures { Counted n (x_of tables.now.meets) sides group rows.new n }
 {
     let mut m = Members::of(group);
     while m.rest != 0 {
         m = m.next();
-        lay_games(sides, group, n, home, away, meets, m.team, rows, m.team);
+        lay_games(sides, group, n, tables, m.team, rows, m.team);
     }
 }
 
@@ -185,19 +174,16 @@ fn fill_pairs(
 // FA2.
 pub fn fill_fa2(
     c: Constraint,
-    n: usize,
-    p: usize,
-    home: &[Slots; Season::TEAMS],
-    away: &[Slots; Season::TEAMS],
-    meets: &[Slots; Season::PLACES],
+    z: Season,
+    tables: &Tables,
     out: &mut [u32],
 )
-    requires { Fillable n p c (tables home.now away.now meets.now) out.old × (c.kind ≡ 42) }
-    ensures { out.new ≡ dev_fa2 n p c (x_of meets.now) }
+    requires { Fillable z.teams z.slots c tables.now out.old × (c.kind ≡ 42) }
+    ensures { out.new ≡ dev_fa2 z.teams z.slots c (x_of tables.now.meets) }
 {
     let mut e = [0u8; Season::SLOTS];
     rows::spread(c.s, &mut e);
     let mut rows = [0u8; rows::PLACES];
-    lay_teams(mode_sides(c.mode), c.t1, n, home, away, meets, &mut rows);
+    lay_teams(Sides::of_mode(c.mode), c.t1, n, tables, &mut rows);
     fill_pairs(c.t1, c.kmax, n, &rows, &e, out);
 }

@@ -5,12 +5,12 @@
 ghost use Rattle.std.specs.Prelude.{◌≡◌, ◌<◌, ◌≤◌};
 ghost use Rattle.robinx.specs.Season.{decode};
 ghost use Rattle.robinx.specs.Calls.{set_slot, buffers, outcome};
-ghost use Rattle.tables.specs.Tables.{tables};
 ghost use Rattle.admission.specs.Admission.{Ready, after_entry};
 
 use calls::{move_of, set_fault};
 use replies::declined;
-use robinx::{Reply, Season, Slots};
+use robinx::{Refusal, Reply, Season};
+use tables::Tables;
 use timetable::no_slot;
 use touch::no_move;
 use walk::moves;
@@ -21,15 +21,13 @@ fn set_to(
     z: Season,
     sheet: &mut [u8],
     unplaced: usize,
-    home: &mut [Slots; Season::TEAMS],
-    away: &mut [Slots; Season::TEAMS],
-    meets: &mut [Slots; Season::PLACES],
+    tables: &mut Tables,
     ledger: &mut [u32],
     tally: &mut [u64],
     g: usize,
     b: u8,
 ) -> Reply
-    requires { Ready season.now (buffers sheet.old ledger.old tally.old) z unplaced (tables home.old away.old meets.old)
+    requires { Ready season.now (buffers sheet.old ledger.old tally.old) z unplaced tables.old
         × (g < (decode season.now).G) × (b ≤ (decode season.now).P) }
     ensures { outcome result (buffers sheet.new ledger.new tally.new)
         ≡ after_entry (decode season.now) (buffers sheet.old ledger.old tally.old) (set_slot g b) }
@@ -40,10 +38,8 @@ fn set_to(
     if timetable::reslot(
         homes,
         aways,
-        &*sheet,
-        &mut *home,
-        &mut *away,
-        &mut *meets,
+        sheet,
+        tables,
         g,
         b,
     ) {
@@ -55,14 +51,12 @@ fn set_to(
             z,
             moves(first, no_move()),
             left,
-            &*home,
-            &*away,
-            &*meets,
+            tables,
             ledger,
             tally,
         );
     }
-    declined(13)
+    declined(Refusal::TeamBusy)
 }
 
 // Set, once sentences 1 to 8 are passed.
@@ -71,33 +65,28 @@ pub fn set(
     z: Season,
     sheet: &mut [u8],
     unplaced: usize,
-    home: &mut [Slots; Season::TEAMS],
-    away: &mut [Slots; Season::TEAMS],
-    meets: &mut [Slots; Season::PLACES],
+    tables: &mut Tables,
     ledger: &mut [u32],
     tally: &mut [u64],
     game: u64,
     slot: u64,
 ) -> Reply
-    requires { Ready season.now (buffers sheet.old ledger.old tally.old) z unplaced (tables home.old away.old meets.old) }
+    requires { Ready season.now (buffers sheet.old ledger.old tally.old) z unplaced tables.old }
     ensures { outcome result (buffers sheet.new ledger.new tally.new)
         ≡ after_entry (decode season.now) (buffers sheet.old ledger.old tally.old) (set_slot game slot) }
 {
-    let fault = set_fault(z, game, slot);
-    if fault != 0 {
-        return declined(fault);
+    match set_fault(z, game, slot) {
+        Ok(()) => set_to(
+            season,
+            z,
+            sheet,
+            unplaced,
+            tables,
+            ledger,
+            tally,
+            game as usize,
+            slot as u8,
+        ),
+        Err(refusal) => declined(refusal),
     }
-    set_to(
-        season,
-        z,
-        sheet,
-        unplaced,
-        home,
-        away,
-        meets,
-        ledger,
-        tally,
-        game as usize,
-        slot as u8,
-    )
 }

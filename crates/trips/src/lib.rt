@@ -7,18 +7,16 @@ ghost use Rattle.robinx.specs.Season.{most_slots};
 ghost use Rattle.robinx.specs.Groups.{bit, has, size};
 ghost use Rattle.robinx.specs.Timetable.{last_was};
 ghost use Rattle.robinx.specs.Deviations.{over, deviations};
-ghost use Rattle.tables.specs.Tables.{tables, x_of};
+ghost use Rattle.tables.specs.Tables.{x_of};
 ghost use Rattle.opponents.specs.Fillable.{Fillable, TiedGroup};
 ghost use Rattle.trips.specs.TripFigures.{is_trip_kind, of_trip, of_team, of_run, of_masks, trip_figure};
 
-use groups::Members;
+use groups::fill::fill_each;
 use masks::{common, count_in, first, front, is_some, last_in, trip_from, trip_starts, without};
 use opponents::against;
-use opponents::measure::{less, outside};
-use robinx::{Constraint, Season, Slots};
-
-// The away side, on which trips are.
-const AWAY: u8 = 2;
+use opponents::measure::{Sides, outside};
+use robinx::{Constraint, Kind, Season, Slots};
+use tables::Tables;
 
 // The run has two slots or more, and its last one is in s.
 fn ends_in(run: Slots, s: Slots) -> bool
@@ -31,9 +29,8 @@ fn ends_in(run: Slots, s: Slots) -> bool
 fn trip_figure(c: Constraint, wanted: Slots, trip: Slots) -> u32
     ensures { result ≡ of_trip c (over most_slots trip (bit wanted)) }
 {
-    let kind = c.kind;
-    match kind {
-        34 => 1,
+    match Kind::of(c.kind) {
+        Kind::Br4 => 1,
         _ => outside(c.kmin, c.kmax, count_in(wanted, trip)),
     }
 }
@@ -68,9 +65,8 @@ fn sum_trips(c: Constraint, away: Slots, home: Slots, wanted: Slots) -> u32
 fn off_trips(c: Constraint, v: u32) -> u32
     ensures { result ≡ of_team c v }
 {
-    let kind = c.kind;
-    match kind {
-        34 => less(c.kmin as u32, v),
+    match Kind::of(c.kind) {
+        Kind::Br4 => u32::from(c.kmin).saturating_sub(v),
         _ => v,
     }
 }
@@ -78,39 +74,27 @@ fn off_trips(c: Constraint, v: u32) -> u32
 // The deviation of a team.
 fn team_figure(
     c: Constraint,
-    n: usize,
-    p: usize,
-    home: &[Slots; Season::TEAMS],
-    away: &[Slots; Season::TEAMS],
-    meets: &[Slots; Season::PLACES],
+    z: Season,
+    tables: &Tables,
     t: usize,
 ) -> u32
-    requires { (p ≤ most_slots) × (t < n) × TiedGroup n c.t2 (tables home.now away.now meets.now) }
-    ensures { result ≡ trip_figure n p c (x_of meets.now) t }
+    requires { (z.slots ≤ most_slots) × (t < z.teams) × TiedGroup z.teams c.t2 tables.now }
+    ensures { result ≡ trip_figure z.teams z.slots c (x_of tables.now.meets) t }
 {
-    let wanted = against(meets, home, away, AWAY, c.t2, t, n);
-    let a = front(away[t], p as u64);
-    off_trips(c, sum_trips(c, a, home[t], wanted))
+    let wanted = against(tables, Sides::Away, c.t2, t, z.teams);
+    let away = front(tables.away[t], z.slots as u64);
+    off_trips(c, sum_trips(c, away, tables.home[t], wanted))
 }
 
 // The deviations of CA5 and of BR4, from one team of the group to the next.
 pub fn fill_trips(
     c: Constraint,
-    n: usize,
-    p: usize,
-    home: &[Slots; Season::TEAMS],
-    away: &[Slots; Season::TEAMS],
-    meets: &[Slots; Season::PLACES],
+    z: Season,
+    tables: &Tables,
     out: &mut [u32],
 )
-    requires { Fillable n p c (tables home.now away.now meets.now) out.old × (is_trip_kind c.kind ≡ true) }
-    ensures { out.new ≡ deviations n p c (x_of meets.now) }
+    requires { Fillable z.teams z.slots c tables.now out.old × (is_trip_kind c.kind ≡ true) }
+    ensures { out.new ≡ deviations z.teams z.slots c (x_of tables.now.meets) }
 {
-    let mut at = 0;
-    let mut m = Members::of(c.t1);
-    while m.rest != 0 {
-        m = m.next();
-        out[at] = team_figure(c, n, p, home, away, meets, m.team);
-        at += 1;
-    }
+    fill_each(c.t1, |t| team_figure(c, z, tables, t), out);
 }

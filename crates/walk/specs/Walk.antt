@@ -1,5 +1,5 @@
 -- What a walk over a season's constraints is given, and what it leaves.
-use Rattle.std.specs.Prelude.{◌≡◌, List, ◌++◌, Bool, false, ◌||◌, ℕ, ◌+◌, length, set, drop}
+use Rattle.std.specs.Prelude.{◌≡◌, List, ◌++◌, Bool, true, false, ◌||◌, ℕ, ◌+◌, length, set, drop}
 use Rattle.robinx.specs.Sums.{cat_to, list_to}
 use Rattle.robinx.specs.Season.{Instance, decode}
 use Rattle.robinx.specs.Timetable.{X}
@@ -13,7 +13,9 @@ use Rattle.tables.specs.declared.Tables.{Tables}
 use Rattle.tables.specs.Tables.{Tied}
 use Rattle.touch.specs.Touched.{Possible, Named, touched_by_move}
 use Rattle.totals.specs.RunningTotals.{TotalsOf}
+use Rattle.touch.specs.declared.Move.{Move}
 use Rattle.walk.specs.declared.Touch.{Touch}
+use Rattle.walk.specs.declared.Touch.TheVariants.{Everything, Moves}
 use Rattle.walk.specs.declared.Moved.{Moved}
 
 -- a season whose sizes and constraints no sentence refuses, tables of its teams, and books of its lengths
@@ -26,15 +28,20 @@ pub record Given (s : List ℕ) (z : Season) (t : Tables) (ledger tally : List �
   pub tally-length : length tally ≡ (decode s).C + 2
 
 -- the moves are possible, and `teams` has the teams of both
-pub record SoundTouch (τ : Touch) : Type 0 where
-  pub first : Possible τ.first
-  pub second : Possible τ.second
-  pub first-teams : Named τ.teams τ.first
-  pub second-teams : Named τ.teams τ.second
+pub record SoundMoves (teams : ℕ) (first second : Move) : Type 0 where
+  pub first : Possible first
+  pub second : Possible second
+  pub first-teams : Named teams first
+  pub second-teams : Named teams second
+
+abbrev pub SoundTouch : Touch → Type 0
+SoundTouch Everything = Unit {0}
+SoundTouch (Moves teams first second) = SoundMoves teams first second
 
 -- which constraints are worked out
 abbrev pub is_touched : Touch → Constraint → Bool
-is_touched τ c = τ.all || (touched_by_move τ.first c || touched_by_move τ.second c)
+is_touched Everything c = true
+is_touched (Moves teams first second) c = touched_by_move first c || touched_by_move second c
 
 -- The touched constraints' figures are those of x, the others' are as they were; the two totals in the tally are not looked at.
 pub record Reworked (m : Instance) (t : ℕ → Bool) (x : X) (ledger tally ledger' tally' : List ℕ) (r : Moved) : Type 0 where

@@ -2,58 +2,49 @@
 
 #![tactic(auto)]
 
-ghost use Rattle.std.specs.Prelude.{◌≡◌, true, false, ◌+◌, ◌<◌, length, get_or, set};
+ghost use Rattle.std.specs.Prelude.{◌≡◌, ◌||◌, ◌+◌, ◌<◌, length, get_or, set};
 ghost use Rattle.robinx.specs.Season.{decode};
 ghost use Rattle.robinx.specs.Deviations.{deviations};
 ghost use Rattle.robinx.specs.Penalty.{penalty};
-ghost use Rattle.tables.specs.Tables.{tables, x_of};
+ghost use Rattle.tables.specs.Tables.{x_of};
 ghost use Rattle.opponents.specs.Fillable.{Fillable};
-ghost use Rattle.touch.specs.Touched.{Possible};
+ghost use Rattle.robinx.specs.declared.Constraint.{Constraint};
+ghost use Rattle.touch.specs.Touched.{Possible, touched_by_move};
 ghost use Rattle.totals.specs.RunningTotals.{Adds};
 ghost use Rattle.walk.specs.Walk.{Given, SoundTouch, is_touched, Reworked};
 
 use figures::fill;
 use kinds::form_of;
-use robinx::{Constraint, Season, Slots};
+use robinx::{Constraint, Kind, Season};
+use tables::Tables;
 use totals::{Totals, added};
-use touch::{Move, either_touches, no_move, passed_over, teams_of};
+use touch::{Move, either_touches, passed_over, teams_of};
 
-// What a call changes: everything, or what its moves touch. `teams` are the teams of the moves.
+// What a call changes: everything, or what two moves touch, whose teams are `teams`.
 #[derive(Clone, Copy)]
-pub struct Touch {
-    pub all: bool,
-    pub teams: u32,
-    pub first: Move,
-    pub second: Move,
+pub enum Touch {
+    Everything,
+    Moves {
+        teams: u32,
+        first: Move,
+        second: Move,
+    },
 }
 
 // What the reworked constraints pay now, and what they paid.
-#[derive(Clone, Copy)]
+#[derive(Clone, Copy, Default)]
 pub struct Moved {
     pub gained: Totals,
     pub lost: Totals,
 }
 
-// A walk that works out every constraint.
-pub fn everything() -> Touch
-    ensures { (result.all ≡ true) × SoundTouch result }
-{
-    let none = no_move();
-    Touch {
-        all: true,
-        teams: teams_of(none, none),
-        first: none,
-        second: none,
-    }
-}
-
-// One that works out what a move of two touches.
+// What two moves touch.
 pub fn moves(first: Move, second: Move) -> Touch
     requires { Possible first × Possible second }
-    ensures { (result.all ≡ false) × (result.first ≡ first) × (result.second ≡ second) × SoundTouch result }
+    ensures sound { SoundTouch result }
+    ensures touched { (c : Constraint) → is_touched result c ≡ touched_by_move first c || touched_by_move second c }
 {
-    Touch {
-        all: false,
+    Touch::Moves {
         teams: teams_of(first, second),
         first,
         second,
@@ -65,32 +56,32 @@ fn is_touched(c: Constraint, touch: Touch) -> bool
     requires { SoundTouch touch }
     ensures { result ≡ is_touched touch c }
 {
-    if touch.all {
-        return true;
+    match touch {
+        Touch::Everything => true,
+        Touch::Moves {
+            teams,
+            first,
+            second,
+        } => {
+            let form = form_of(Kind::of(c.kind));
+            !passed_over(form, c.t1, teams) && either_touches(form, c, first, second)
+        }
     }
-    let form = form_of(c.kind);
-    if passed_over(form, c.t1, touch.teams) {
-        return false;
-    }
-    either_touches(form, c, touch.first, touch.second)
 }
 
 // Works out a constraint's deviations into the stretch, and from them its penalty. Nothing else is written.
 pub fn price(
     c: Constraint,
-    n: usize,
-    p: usize,
-    home: &[Slots; Season::TEAMS],
-    away: &[Slots; Season::TEAMS],
-    meets: &[Slots; Season::PLACES],
+    z: Season,
+    tables: &Tables,
     stretch: &mut [u32],
 ) -> u64
-    requires { Fillable n p c (tables home.now away.now meets.now) stretch.old }
-    ensures { (stretch.new ≡ deviations n p c (x_of meets.now))
-        × (result ≡ penalty c (deviations n p c (x_of meets.now))) }
+    requires { Fillable z.teams z.slots c tables.now stretch.old }
+    ensures { (stretch.new ≡ deviations z.teams z.slots c (x_of tables.now.meets))
+        × (result ≡ penalty c (deviations z.teams z.slots c (x_of tables.now.meets))) }
 {
-    fill(c, n, p, home, away, meets, &mut *stretch);
-    penalties::penalty(c, &*stretch)
+    fill(c, z, tables, stretch);
+    penalties::penalty(c, stretch)
 }
 
 // Stores the penalty of constraint number k, and adds it and the one that it replaces to the sums.
@@ -114,19 +105,17 @@ fn renew(
     c: Constraint,
     z: Season,
     k: usize,
-    home: &[Slots; Season::TEAMS],
-    away: &[Slots; Season::TEAMS],
-    meets: &[Slots; Season::PLACES],
+    tables: &Tables,
     stretch: &mut [u32],
     tally: &mut [u64],
 ) -> Moved
-    requires { Fillable z.teams z.slots c (tables home.now away.now meets.now) stretch.old × (k < length tally.old) }
-    ensures { (stretch.new ≡ deviations z.teams z.slots c (x_of meets.now))
-        × (tally.new ≡ set tally.old k (penalty c (deviations z.teams z.slots c (x_of meets.now))))
-        × Adds sums.gained c.hard (penalty c (deviations z.teams z.slots c (x_of meets.now))) result.gained
+    requires { Fillable z.teams z.slots c tables.now stretch.old × (k < length tally.old) }
+    ensures { (stretch.new ≡ deviations z.teams z.slots c (x_of tables.now.meets))
+        × (tally.new ≡ set tally.old k (penalty c (deviations z.teams z.slots c (x_of tables.now.meets))))
+        × Adds sums.gained c.hard (penalty c (deviations z.teams z.slots c (x_of tables.now.meets))) result.gained
         × Adds sums.lost c.hard (get_or tally.old k 0) result.lost }
 {
-    let new = price(c, z.teams, z.slots, home, away, meets, stretch);
+    let new = price(c, z, tables, stretch);
     enter(sums, c.hard, k, new, tally)
 }
 
@@ -135,41 +124,24 @@ pub fn walk(
     season: &[u8],
     z: Season,
     touch: Touch,
-    home: &[Slots; Season::TEAMS],
-    away: &[Slots; Season::TEAMS],
-    meets: &[Slots; Season::PLACES],
+    tables: &Tables,
     ledger: &mut [u32],
     tally: &mut [u64],
 ) -> Moved
-    requires { Given season.now z (tables home.now away.now meets.now) ledger.old tally.old × SoundTouch touch }
+    requires { Given season.now z tables.now ledger.old tally.old × SoundTouch touch }
     ensures { Reworked (decode season.now) (λ k. is_touched touch ((decode season.now).constraint k))
-        (x_of meets.now) ledger.old tally.old ledger.new tally.new result }
+        (x_of tables.now.meets) ledger.old tally.old ledger.new tally.new result }
 {
-    let mut sums = Moved {
-        gained: Totals { hard: 0, soft: 0 },
-        lost: Totals { hard: 0, soft: 0 },
-    };
+    let mut sums = Moved::default();
     let mut at = 0;
-    let mut k = 0;
-    while k < z.constraints {
+    for k in 0..z.constraints {
         let c = reader::cursor::constraint_of(season, z, k);
         let end = at + kinds::entries_of(c);
         let touched = is_touched(c, touch);
         if touched {
-            sums = renew(
-                sums,
-                c,
-                z,
-                k,
-                home,
-                away,
-                meets,
-                &mut ledger[at..end],
-                &mut *tally,
-            );
+            sums = renew(sums, c, z, k, tables, &mut ledger[at..end], tally);
         }
         at = end;
-        k += 1;
     }
     sums
 }
