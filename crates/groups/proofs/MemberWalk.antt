@@ -23,8 +23,8 @@ use Rattle.groups.specs.MemberWalk.{Ahead, From, Next, Step}
 
 -- What a place without a member keeps, the walk keeps up to the next member, and to the end.
 module _ {n T : ℕ} {m : Members} (F : ℕ → Type 0) (skip : (j : ℕ) → has T j ≡ false → F j → F (j + 1)) (f : F m.at) where
-  pub to-next : {r : Members} → Next n T m r → F r.team
-  to-next {r} x = passed m.at r.team x.on F (λ j p q. skip j (x.none j p q)) f
+  pub to-next : {t : ℕ} {r : Members} → Next n T m t r → F t
+  to-next {t} x = passed m.at t x.on F (λ j p q. skip j (x.none j p q)) f
 
   pub to_end : Ahead n T m → m.rest ≡ 0 → F n
   to_end a e = passed m.at n a.low F (λ j p q. skip j (none_left T m.at (sym e ∙ a.left) j p)) f
@@ -45,7 +45,7 @@ module _ {n T : ℕ} {g : ℕ → ℕ} {m : Members} {v : ℕ} (w : SumPassed n 
   no-term : (j : ℕ) → has T j ≡ false → IsSum j → IsSum (j + 1)
   no-term j h e = rw (sum_step, h, add-zero) e
 
-  pub sum-turn : {r : Members} {u : ℕ} → Step m r → u ≡ g r.team → SumPassed n T g r (v + u)
+  pub sum-turn : {t : ℕ} {r : Members} {u : ℕ} → Step m t r → u ≡ g t → SumPassed n T g r (v + u)
   sum-turn s p =
       let x = s n T w.ahead in
       record { ahead = x.ahead; sum = rw (x.past, sum_step, x.member, ← to-next IsSum no-term w.sum x, ← p) }
@@ -63,10 +63,10 @@ pub each_start : {n T : ℕ} {f : ℕ → ℕ} {m : Members} {out : List ℕ} �
 each_start {n} s l h p = record { ahead = s.ahead n l h (omega arith); filled = rw s.place (each_none p) }
 
 module _ {n T : ℕ} {f : ℕ → ℕ} {m : Members} {e : ℕ} {out : List ℕ} (w : EachPassed n T f m e out) where
-  each_at : {r : Members} → Next n T m r → FilledEach n T f r.team e out
+  each_at : {t : ℕ} {r : Members} → Next n T m t r → FilledEach n T f t e out
   each_at = to-next (λ j. FilledEach n T f j e out) (λ j h q. each-skipped q h) w.filled
 
-  module _ {r : Members} (s : Step m r) where
+  module _ {t : ℕ} {r : Members} (s : Step m t r) where
     pub each-place : e < length out
     each-place = let x = s n T w.ahead in each-room (each_at x) x.room x.member
 
@@ -74,7 +74,7 @@ module _ {n T : ℕ} {f : ℕ → ℕ} {m : Members} {e : ℕ} {out : List ℕ} 
     pub each-few : e < most_teams
     each-few = omega (arith, each-place, w.filled.filled.long, size-le T n, w.ahead.teams)
 
-    pub each_turn : {v : ℕ} → v ≡ f r.team → EachPassed n T f r (e + 1) (set out e v)
+    pub each_turn : {v : ℕ} → v ≡ f t → EachPassed n T f r (e + 1) (set out e v)
     each_turn p =
         let x = s n T w.ahead in record { ahead = x.ahead; filled = rw x.past (each-taken (each_at x) x.room x.member p) }
 
@@ -90,51 +90,53 @@ pub rows_start : {n T : ℕ} {f : ℕ → ℕ → ℕ} {m : Members} {out : List
     → RowsPassed n T f m 0 out
 rows_start {n} s l h p = record { ahead = s.ahead n l h (omega arith); filled = rw s.place (rows_none p) }
 
-module _ {n T : ℕ} {f : ℕ → ℕ → ℕ} {m : Members} {e : ℕ} {out : List ℕ} (w : RowsPassed n T f m e out) where
-  -- up to the row of the next member
-  pub rows-place : {r : Members} → Step m r → FilledRows n T f r.team e out
-  rows-place s = to-next (λ j. FilledRows n T f j e out) (λ j h q. rows-skipped q h) w.filled (s n T w.ahead)
-
-  -- .. and behind it
-  pub rows-turn : {r : Members} {d : ℕ} {l : List ℕ} → Step m r → FilledRows n T f (r.team + 1) d l → RowsPassed n T f r d l
-  rows-turn s h = let x = s n T w.ahead in record { ahead = x.ahead; filled = rw x.past h }
-
-  pub rows_end : m.rest ≡ 0 → out ≡ each_pair n T f
-  rows_end z = rows-done (to_end (λ j. FilledRows n T f j e out) (λ j h q. rows-skipped q h) w.filled w.ahead z)
-
--- The row of member i: its pairs with the higher members passed have their figures.
-pub record RowPassed (n T : ℕ) (f : ℕ → ℕ → ℕ) (i : ℕ) (m : Members) (e : ℕ) (out : List ℕ) : Type 0 where
+-- The row of member i, at which the walk came to r: its pairs with the higher members passed have their figures.
+pub record RowPassed (n T : ℕ) (f : ℕ → ℕ → ℕ) (r : Members) (i : ℕ) (m : Members) (e : ℕ) (out : List ℕ) : Type 0 where
+  pub on : Ahead n T r
+  pub past : r.at ≡ i + 1
   pub ahead : Ahead n T m
   pub member : has T i ≡ true
   pub higher : i < m.at
   pub filled : FilledRow n T f i m.at e out
 
-pub row-start : {n T : ℕ} {f : ℕ → ℕ → ℕ} {i : ℕ} {m : Members} {e : ℕ} {out : List ℕ} → From T (i + 1) m → n ≤ most_teams → T < 2 ^ n → i < n
-    → has T i ≡ true → FilledRows n T f i e out → RowPassed n T f i m e out
-row-start {n} s l h b p q = record {
-  ahead = s.ahead n l h (omega arith);
-  member = p;
-  higher = rw s.place (omega arith);
-  filled = rw s.place (row-none q);
-}
+module _ {n T : ℕ} {f : ℕ → ℕ → ℕ} {m : Members} {e : ℕ} {out : List ℕ} (w : RowsPassed n T f m e out) where
+  pub row-start : {i : ℕ} {r k : Members} → Step m i r → From T (i + 1) k → RowPassed n T f r i k e out
+  row-start s from =
+      let x = s n T w.ahead in
+      record {
+        on = x.ahead;
+        past = x.past;
+        ahead = from.ahead n w.ahead.teams w.ahead.group (omega arith);
+        member = x.member;
+        higher = rw from.place (omega arith);
+        filled = rw from.place (row-none (to-next (λ j. FilledRows n T f j e out) (λ j h q. rows-skipped q h) w.filled x));
+      }
 
-module _ {n T : ℕ} {f : ℕ → ℕ → ℕ} {i : ℕ} {m : Members} {e : ℕ} {out : List ℕ} (w : RowPassed n T f i m e out) where
-  row_at : {r : Members} → Next n T m r → FilledRow n T f i r.team e out
+  pub rows_end : m.rest ≡ 0 → out ≡ each_pair n T f
+  rows_end z = rows-done (to_end (λ j. FilledRows n T f j e out) (λ j h q. rows-skipped q h) w.filled w.ahead z)
+
+module _ {n T : ℕ} {f : ℕ → ℕ → ℕ} {r : Members} {i : ℕ} {m : Members} {e : ℕ} {out : List ℕ} (w : RowPassed n T f r i m e out) where
+  row_at : {j : ℕ} {k : Members} → Next n T m j k → FilledRow n T f i j e out
   row_at = to-next (λ j. FilledRow n T f i j e out) (λ j h q. row-skipped q h) w.filled
 
-  module _ {r : Members} (s : Step m r) where
+  module _ {j : ℕ} {k : Members} (s : Step m j k) where
     pub row-place : e < length out
     row-place = let x = s n T w.ahead in row_room (row_at x) (omega arith) (omega arith) x.room w.member x.member
 
-    pub row-turn : {v : ℕ} → v ≡ f i r.team → RowPassed n T f i r (e + 1) (set out e v)
+    pub row-turn : {v : ℕ} → v ≡ f i j → RowPassed n T f r i k (e + 1) (set out e v)
     row-turn p =
         let x = s n T w.ahead in
         record {
+          on = w.on;
+          past = w.past;
           ahead = x.ahead;
           member = w.member;
           higher = omega arith;
           filled = rw x.past (row-taken (row_at x) (omega arith) (omega arith) x.room w.member x.member p);
         }
 
-  pub row-end : m.rest ≡ 0 → FilledRows n T f (i + 1) e out
-  row-end z = row_done (to_end (λ j. FilledRow n T f i j e out) (λ j h q. row-skipped q h) w.filled w.ahead z)
+  pub row-end : m.rest ≡ 0 → RowsPassed n T f r e out
+  row-end z = record {
+    ahead = w.on;
+    filled = rw w.past (row_done (to_end (λ j. FilledRow n T f i j e out) (λ j h q. row-skipped q h) w.filled w.ahead z));
+  }

@@ -1,5 +1,5 @@
 -- A walk over the members of a group T of n teams, from one to the next.
-use Rattle.std.specs.Prelude.{◌≡◌, true, false, ℕ, ◌+◌, ◌/◌, ◌^◌, ◌<◌, ◌≤◌}
+use Rattle.std.specs.Prelude.{◌≡◌, true, false, ℕ, ◌+◌, ◌/◌, ◌^◌, ◌<◌, ◌≤◌, Option, MatchOption}
 use Rattle.robinx.specs.Season.{most_teams}
 use Rattle.robinx.specs.Groups.{has}
 use Rattle.groups.specs.declared.Members.{Members}
@@ -16,15 +16,19 @@ pub record From (T k : ℕ) (m : Members) : Type 0 where
   pub place : m.at ≡ k
   pub ahead : (n : ℕ) → n ≤ most_teams → T < 2 ^ n → k ≤ n → Ahead n T m
 
--- from m the walk goes on to r, whose team is the next member
-pub record Next (n T : ℕ) (m r : Members) : Type 0 where
-  pub on : m.at ≤ r.team
-  pub room : r.team < n
-  pub member : has T r.team ≡ true
-  pub none : (i : ℕ) → m.at ≤ i → i < r.team → has T i ≡ false
-  pub past : r.at ≡ r.team + 1
+-- from m the walk goes on to r, past the next member, t
+pub record Next (n T : ℕ) (m : Members) (t : ℕ) (r : Members) : Type 0 where
+  pub on : m.at ≤ t
+  pub room : t < n
+  pub member : has T t ≡ true
+  pub none : (i : ℕ) → m.at ≤ i → i < t → has T i ≡ false
+  pub past : r.at ≡ t + 1
   pub ahead : Ahead n T r
 
 -- .. whatever group it is that m walks over
-abbrev pub Step : Members → Members → Type 0
-Step m r = (n T : ℕ) → Ahead n T m → Next n T m r
+abbrev pub Step : Members → ℕ → Members → Type 0
+Step m t r = (n T : ℕ) → Ahead n T m → Next n T m t r
+
+-- a call of `next` at m gives the next member, or nothing where none is left
+abbrev pub Steps : Members → Option ℕ → Members → Type 0
+Steps m o r = MatchOption o ((m.rest ≡ 0) × (r ≡ m)) (λ t. (t < most_teams) × (m.at ≤ t) × Step m t r)

@@ -7,7 +7,8 @@ ghost use Rattle.std.specs.Int.Count.{ones};
 ghost use Rattle.robinx.specs.Season.{most_teams};
 ghost use Rattle.robinx.specs.Groups.{has};
 ghost use Rattle.groups.specs.Pairs.{pairs_in};
-ghost use Rattle.groups.specs.MemberWalk.{From, Step};
+
+pub mod fill;
 
 use robinx::Season;
 
@@ -50,25 +51,23 @@ pub fn pairs_of(group: u32) -> usize
     (k * k - k) / 2
 }
 
-// A walk over the members of a group, lowest first: `team` is the member that it is at, `rest` has the members from place `at` on, moved down
-// to bit 0. A loop over them goes `while m.rest != 0 { m = m.next(); .. }`.
-#[derive(Clone, Copy)]
+// A walk over the members of a group, lowest first: `rest` has the members from place `at` on, moved down to bit 0.
+#[derive(Clone, Copy, Drop)]
 pub struct Members {
-    pub team: usize,
     pub at: usize,
     pub rest: u32,
+    pub ghost room: { at ≤ most_teams },
+    pub ghost teams: { rest < 2 ^ (most_teams - at) },
 }
 
 impl Members {
+    ghost use Rattle.groups.specs.MemberWalk.{From};
+
     // Before the first member.
     pub fn of(group: u32) -> Self
         ensures { From group 0 result }
     {
-        Self {
-            team: 0,
-            at: 0,
-            rest: group,
-        }
+        Self { at: 0, rest: group }
     }
 
     // Before the first member that is higher than i.
@@ -77,24 +76,33 @@ impl Members {
         ensures { From group (i + 1) result }
     {
         Self {
-            team: i,
             at: i + 1,
             rest: (group >> i) >> 1,
         }
     }
+}
 
-    // At the next member.
-    pub fn next(self) -> Self
-        requires { (0 < self.rest) × (self.at ≤ most_teams) }
-        ensures { Step self result }
-    {
-        let rest = self.rest;
-        let z = u32::trailing_zeros(rest);
-        let team = self.at + z as usize;
-        Self {
-            team,
-            at: team + 1,
-            rest: (rest >> z) >> 1,
+impl Iterator for Members {
+    ghost use Rattle.std.specs.Iterator.{at_most};
+    ghost use Rattle.groups.specs.MemberWalk.{Steps};
+
+    type Item = usize;
+
+    ghost next_gives = { Steps };
+
+    ghost remaining = { λ m. at_most (most_teams - m.at) };
+
+    // The next member.
+    fn next(&mut self) -> Option<usize> {
+        if self.rest == 0 {
+            return None;
         }
+        let z = u32::trailing_zeros(self.rest);
+        let team = self.at + z as usize;
+        *self = Self {
+            at: team + 1,
+            rest: (self.rest >> z) >> 1,
+        };
+        Some(team)
     }
 }

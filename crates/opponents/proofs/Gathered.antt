@@ -34,11 +34,11 @@ module _ {l : List ℕ} {T base step : ℕ} {m : Members} where
   union-start s h = record { ahead = s.ahead most_teams (omega arith) h (omega arith); union = rw s.place none-bit }
 
   module _ {u : ℕ} (w : UnionPassed l T base step m u) where
-    pub union-turn : {r : Members} → Step m r → UnionPassed l T base step r (bit_or u (get_or l (base + r.team * step) 0))
-    union-turn {r} s =
+    pub union-turn : {t : ℕ} {r : Members} → Step m t r → UnionPassed l T base step r (bit_or u (get_or l (base + t * step) 0))
+    union-turn {t} s =
         let x = s most_teams T w.ahead in
         let old = to-next (λ j. Union l T base step j u) (passes l T base step u) w.union x in
-        record { ahead = x.ahead; union = rw x.past (joins l T base step u r.team x.member old) }
+        record { ahead = x.ahead; union = rw x.past (joins l T base step u t x.member old) }
 
     pub union-end : m.rest ≡ 0 → Union l T base step most_teams u
     union-end = to_end (λ j. Union l T base step j u) (passes l T base step u) w.union w.ahead

@@ -1,2 +1,3 @@
 pub mod Fillable
 pub mod Games
+pub mod Sides

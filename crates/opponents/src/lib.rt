@@ -8,14 +8,16 @@ ghost use Rattle.std.specs.Prelude.{◌≡◌, ◌+◌, ◌-◌, ◌*◌, ◌<�
 ghost use Rattle.robinx.specs.Season.{most_teams, most_places};
 ghost use Rattle.robinx.specs.Sums.{only};
 ghost use Rattle.robinx.specs.Timetable.{games_against};
-ghost use Rattle.tables.specs.Tables.{tables, x_of};
+ghost use Rattle.tables.specs.Tables.{x_of};
 ghost use Rattle.opponents.specs.Fillable.{TiedGroup};
+ghost use Rattle.opponents.specs.Sides.{code_of};
 ghost use Rattle.opponents.specs.Games.{MaskOf, of_sides, Union, UnionIf};
 
 use groups::Members;
 use masks::union;
-use measure::{asks_away, asks_home};
+use measure::Sides;
 use robinx::{Season, Slots};
+use tables::Tables;
 
 // The mask if it is asked for, else none.
 fn only_if(asked: bool, mask: Slots) -> Slots
@@ -25,18 +27,13 @@ fn only_if(asked: bool, mask: Slots) -> Slots
 }
 
 // The slots of the team's games of the sides, against any team.
-pub fn played(
-    home: &[Slots; Season::TEAMS],
-    away: &[Slots; Season::TEAMS],
-    sides: u8,
-    t: usize,
-) -> Slots
+pub fn played(tables: &Tables, sides: Sides, t: usize) -> Slots
     requires { t < most_teams }
-    ensures { result ≡ of_sides sides (get_or home.now t 0) (get_or away.now t 0) }
+    ensures { result ≡ of_sides (code_of sides) (get_or tables.now.home t 0) (get_or tables.now.away t 0) }
 {
     union(
-        only_if(asks_home(sides), home[t]),
-        only_if(asks_away(sides), away[t]),
+        only_if(sides.asks_home(), tables.home[t]),
+        only_if(sides.asks_away(), tables.away[t]),
     )
 }
 
@@ -46,10 +43,8 @@ fn gather(meets: &[Slots; Season::PLACES], group: u32, base: usize, step: usize)
     ensures { Union meets.now group base step most_teams result }
 {
     let mut u = masks::NONE;
-    let mut m = Members::of(group);
-    while m.rest != 0 {
-        m = m.next();
-        u = union(u, meets[base + m.team * step]);
+    for t in Members::of(group) {
+        u = union(u, meets[base + t * step]);
     }
     u
 }
@@ -72,24 +67,17 @@ fn gather_if(
 }
 
 // The slots of the team's games of the sides, against the teams of the group.
-pub fn against(
-    meets: &[Slots; Season::PLACES],
-    home: &[Slots; Season::TEAMS],
-    away: &[Slots; Season::TEAMS],
-    sides: u8,
-    group: u32,
-    t: usize,
-    n: usize,
-) -> Slots
-    requires { (t < n) × TiedGroup n group (tables home.now away.now meets.now) }
-    ensures { MaskOf (games_against n (x_of meets.now) sides group t) result }
+pub fn against(tables: &Tables, sides: Sides, group: u32, t: usize, n: usize) -> Slots
+    requires { (t < n) × TiedGroup n group tables.now }
+    ensures { MaskOf (games_against n (x_of tables.now.meets) (code_of sides) group t) result }
 {
     if group == groups::everyone(n) {
-        return played(home, away, sides, t);
+        return played(tables, sides, t);
     }
-    let hosted = gather_if(asks_home(sides), meets, group, t * Season::TEAMS, 1);
+    let meets = &tables.meets;
+    let hosted = gather_if(sides.asks_home(), meets, group, t * Season::TEAMS, 1);
     union(
         hosted,
-        gather_if(asks_away(sides), meets, group, t, Season::TEAMS),
+        gather_if(sides.asks_away(), meets, group, t, Season::TEAMS),
     )
 }

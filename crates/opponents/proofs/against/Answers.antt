@@ -1,6 +1,7 @@
 -- `opponents::against` meets its contract. Assumes nothing.
 use mathlib.Core.Path.{◌∙◌}
 use Rattle.tables.specs.Tables.{x_of}
+use Rattle.opponents.specs.Sides.{code_of}
 use Rattle.opponents.proofs.Games.{sides-mask, union-mask, against-all}
 use Rattle.opponents.proofs.against.Goals as goal
 
@@ -8,13 +9,13 @@ pub returns-then-group-everyone : goal.returns-then-group-everyone
 returns-then-group-everyone c k l =
     let a = c.args in
     let everyone = c.if-group-everyone.true ∙ c.everyone.ensures in
-    rw (c.played.ensures, against-all a.n (x_of a.meets.now) a.sides a.t a.group k everyone)
-    (sides-mask c.requires.1.tied a.sides a.t c.requires.0 k l)
+    rw (c.played.ensures, against-all a.n (x_of a.tables.now.meets) (code_of a.sides) a.t a.group k everyone)
+    (sides-mask c.requires.1.tied (code_of a.sides) a.t c.requires.0 k l)
 
 pub returns : goal.returns
 returns c =
     let a = c.args in
     let g = c.requires.1 in
     rw c.union.ensures
-    (union-mask g.tied a.sides a.t c.requires.0 a.group c.gather_if-hosted.result c.gather_if.result g.teams g.group
+    (union-mask g.tied (code_of a.sides) a.t c.requires.0 a.group c.gather_if-hosted.result c.gather_if.result g.teams g.group
     c.asks_home.ensures c.asks_away.ensures c.gather_if-hosted.ensures c.gather_if.ensures)

@@ -1,7 +1,13 @@
 -- `groups::Members::above` meets its contract. Assumes nothing.
-use mathlib.Core.Path.{refl}
-use lib.Pow.{shr-shr}
+use Rattle.std.proofs.Common.{refl, arith, shr-shr, shr_lt, ◌≡◌, ◌+◌, ◌-◌}
+use Rattle.robinx.specs.Season.{most_teams}
 use Rattle.groups.proofs.Members.above.Goals as goal
+
+pub invariant_of-result-clause-teams : goal.invariant_of-result-clause-teams
+invariant_of-result-clause-teams c =
+    let i = c.args.i in
+    let e : most_teams - (i + 1) + (i + 1) ≡ 32 = omega arith in
+    rw (shr-shr c.args.group i 1) (shr_lt (most_teams - (i + 1)) (i + 1) (rw e c.ranges.group.fits))
 
 pub returns : goal.returns
 returns c = record {

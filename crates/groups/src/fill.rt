@@ -1,0 +1,50 @@
+// A figure for each member of a group, or for each pair of members, and the sum of the members' figures. They are generic in the figure, so that
+// each call of it is compiled in place.
+
+ghost use Rattle.std.specs.Prelude.{◌≡◌, true, ℕ, ◌*◌, ◌<◌, ◌≤◌, ◌^◌, length};
+ghost use Rattle.std.specs.Int.Count.{ones};
+ghost use Rattle.robinx.specs.Season.{most_teams};
+ghost use Rattle.robinx.specs.Groups.{has};
+ghost use Rattle.groups.specs.Pairs.{pairs_in};
+ghost use Rattle.groups.specs.Figures.{OfMembers, OfPairs, EachFigure, EachPairFigure, TotalFigure};
+
+use crate::Members;
+
+// The figure of each member, lowest first.
+pub fn fill_each<F: Fn(usize) -> u32>(group: u32, figure: F, out: &mut [u32])
+    requires room { length out.old ≡ ones group }
+    requires callable { OfMembers most_teams group (F.pre figure) }
+    ensures { EachFigure group (F.post figure) out.new }
+{
+    for (at, t) in Members::of(group).enumerate() {
+        out[at] = figure(t);
+    }
+}
+
+// The figure of each pair of members, lower one first.
+pub fn fill_pairs<F: Fn(usize, usize) -> u32>(group: u32, figure: F, out: &mut [u32])
+    requires room { length out.old ≡ pairs_in group }
+    requires callable { OfPairs most_teams group (F.pre figure) }
+    ensures { EachPairFigure group (F.post figure) out.new }
+{
+    let mut at = 0;
+    for i in Members::of(group) {
+        for j in Members::above(group, i) {
+            out[at] = figure(i, j);
+            at += 1;
+        }
+    }
+}
+
+// The sum of the members' figures, which are so small that no sum of them is too large.
+pub fn total<F: Fn(usize) -> u32>(group: u32, figure: F) -> u32
+    requires callable { OfMembers most_teams group (F.pre figure) }
+    requires small { OfMembers most_teams group (λ t. (r : ℕ) → F.post figure t r → most_teams * r < 2 ^ 32) }
+    ensures { TotalFigure group (F.post figure) result }
+{
+    let mut v = 0;
+    for t in Members::of(group) {
+        v += figure(t);
+    }
+    v
+}
