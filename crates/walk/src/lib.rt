@@ -14,7 +14,7 @@ ghost use Rattle.walk.specs.Walk.{Given, SoundTouch, is_touched, Reworked};
 
 use figures::fill;
 use kinds::form_of;
-use robinx::{Constraint, Season, Slots};
+use robinx::{Constraint, Kind, Season, Slots};
 use totals::{Totals, added};
 use touch::{Move, either_touches, no_move, passed_over, teams_of};
 
@@ -68,7 +68,7 @@ fn is_touched(c: Constraint, touch: Touch) -> bool
     if touch.all {
         return true;
     }
-    let form = form_of(c.kind);
+    let form = form_of(Kind::of(c.kind));
     if passed_over(form, c.t1, touch.teams) {
         return false;
     }
