@@ -4,7 +4,8 @@ use mathlib.Core.List.{List}
 use Prim.Native.Nat.{ℕ}
 use lib.ListN.{length}
 use Rattle.robinx.specs.Season.{most_slots, slots_of}
-use Rattle.robinx.specs.Kinds.{Kind, kind_of, form_of, form_at}
+use Rattle.robinx.specs.Kinds.{kind_of, form_of, form_at}
+use Rattle.robinx.specs.declared.Kind.{Kind}
 use Rattle.robinx.specs.Deviations.{over, in_shape, entries}
 use Rattle.robinx.specs.declared.Constraint.{Constraint}
 use Rattle.robinx.proofs.Limits.{Obeys, obeyed}

@@ -10,7 +10,9 @@ use Rattle.robinx.specs.Season.{slots_of}
 use Rattle.robinx.specs.Groups.{has, reaches}
 use Rattle.robinx.specs.Timetable.{X, side, home_side, away_side, any_side, first_modes}
 use Rattle.robinx.specs.Timetable.{games_with, games_in, games_against, games_up_to, between, games_between, plays, break_on, breaks_in, meet}
-use Rattle.robinx.specs.Kinds.{Kind, kind_of, form_of, form_at}
+use Rattle.robinx.specs.Kinds.{kind_of, form_of, form_at}
+use Rattle.robinx.specs.declared.Kind.{Kind}
+use Rattle.robinx.specs.declared.Kind.TheVariants.{Ca1, Ca2, Ca3, Ca4, Ca5, Ga1, Br1, Br2, Br4, Fa1, Fa2, Se1, Unknown}
 use Rattle.robinx.specs.Deviations.{outside, off_target, in_run, trips, trip_games, breaks, too_close, deviations_of, deviations}
 use Rattle.robinx.specs.Deviations.{dev_ca1, dev_ca2, dev_ca3, dev_ca4, dev_ca5, dev_ga1, dev_br1, dev_br2, dev_br4, dev_fa1, dev_fa2, dev_se1}
 use Rattle.robinx.specs.Touch.{teams_touch, slot_touches, scope_of, scope}
@@ -104,27 +106,27 @@ module _ (n P : ℕ) (x y : X) where
 
   -- A law a kind.
   module _ (c : Constraint) where
-    pub agree_ca1 : Agree (scope_of (form_of Kind.CA1) c) n P x y → dev_ca1 n P c x ≡ dev_ca1 n P c y
+    pub agree_ca1 : Agree (scope_of (form_of Ca1) c) n P x y → dev_ca1 n P c x ≡ dev_ca1 n P c y
     unfolding dev_ca1 form_of scope_of teams_touch slot_touches
     agree_ca1 h =
         each-ext n c.t1 (λ t lt m. ap (outside c.kmin c.kmax) (over-ext P (slots_of c) (λ k lk s.
         games_in-agree _ t k (λ j lj. (h t j k lt lj lk (simp (m, s)), h j t k lj lt lk (simp (m, s, or-true)))))))
 
-    pub agree_ca2 : Agree (scope_of (form_of Kind.CA2) c) n P x y → dev_ca2 n P c x ≡ dev_ca2 n P c y
+    pub agree_ca2 : Agree (scope_of (form_of Ca2) c) n P x y → dev_ca2 n P c x ≡ dev_ca2 n P c y
     unfolding dev_ca2 form_of scope_of teams_touch slot_touches
     agree_ca2 h =
         each-ext n c.t1 (λ t lt m. ap (outside c.kmin c.kmax) (over-ext P (slots_of c) (λ k lk s.
         games_against-agree _ c.t2 t k (λ j lj b.
         (h t j k lt lj lk (simp (m, s, b)), h j t k lj lt lk (simp (m, s, b, or-true)))))))
 
-    pub agree_ca3 : Agree (scope_of (form_of Kind.CA3) c) n P x y → dev_ca3 n P c x ≡ dev_ca3 n P c y
+    pub agree_ca3 : Agree (scope_of (form_of Ca3) c) n P x y → dev_ca3 n P c x ≡ dev_ca3 n P c y
     unfolding dev_ca3 in_run form_of scope_of teams_touch slot_touches
     agree_ca3 h =
         each-ext n c.t1 (λ t lt m. sum-ext (suc P - c.w) (λ a la. ap (outside c.kmin c.kmax) (sum-ext c.w (λ d ld.
         games_against-agree _ c.t2 t (a + d) (λ j lj b.
         (h t j (a + d) lt lj (omega arith) (simp (m, b)), h j t (a + d) lj lt (omega arith) (simp (m, b, or-true))))))))
 
-    pub agree_ca4 : Agree (scope_of (form_of Kind.CA4) c) n P x y → dev_ca4 n P c x ≡ dev_ca4 n P c y
+    pub agree_ca4 : Agree (scope_of (form_of Ca4) c) n P x y → dev_ca4 n P c x ≡ dev_ca4 n P c y
     unfolding dev_ca4 between form_of scope_of teams_touch slot_touches
     agree_ca4 h =
         ap₂ (cond (first_modes c.mode))
@@ -140,83 +142,83 @@ module _ (n P : ℕ) (x y : X) where
             h i j k li lj lk (counted (has d 0) (has d 1) (has c.t1 i && has c.t2 j) _ _ b s))
 
     -- in the scope of both kinds of trips a team of T1 has all its games
-    team-agree : Agree (scope_of (form_of Kind.BR4) c) n P x y → (t : ℕ) → t < n → has c.t1 t ≡ true
+    team-agree : Agree (scope_of (form_of Br4) c) n P x y → (t : ℕ) → t < n → has c.t1 t ≡ true
         → (k j : ℕ) → k < P → j < n → Same x y t j k
     unfolding form_of scope_of teams_touch slot_touches
     team-agree h t lt m k j lk lj = (h t j k lt lj lk (simp m), h j t k lj lt lk (simp (m, or-true)))
 
-    pub agree_ca5 : Agree (scope_of (form_of Kind.CA5) c) n P x y → dev_ca5 n P c x ≡ dev_ca5 n P c y
+    pub agree_ca5 : Agree (scope_of (form_of Ca5) c) n P x y → dev_ca5 n P c x ≡ dev_ca5 n P c y
     unfolding dev_ca5 form_of scope_of
     agree_ca5 h =
         each-ext n c.t1 (λ t lt m.
         let same = team-agree h t lt m in
         trips-agree c t same (λ a. ap (outside c.kmin c.kmax) (trip_games-agree c t same a)))
 
-    pub agree_ga1 : Agree (scope_of (form_of Kind.GA1) c) n P x y → dev_ga1 n P c x ≡ dev_ga1 n P c y
+    pub agree_ga1 : Agree (scope_of (form_of Ga1) c) n P x y → dev_ga1 n P c x ≡ dev_ga1 n P c y
     unfolding dev_ga1 between form_of scope_of teams_touch slot_touches
     agree_ga1 h = ap (λ (v : ℕ). outside c.kmin c.kmax v ∷ []) (over-ext P (slots_of c) (λ k lk s.
         games_between-agree home_side c.t1 c.t2 k (λ i j li lj b. h i j k li lj lk (simp (s, simp or-false at b)))))
 
-    breaks-agree : Agree (scope_of (form_of Kind.BR1) c) n P x y → (t : ℕ) → t < n → has c.t1 t ≡ true → breaks n P c x t ≡ breaks n P c y t
+    breaks-agree : Agree (scope_of (form_of Br1) c) n P x y → (t : ℕ) → t < n → has c.t1 t ≡ true → breaks n P c x t ≡ breaks n P c y t
     unfolding breaks form_of scope_of teams_touch slot_touches
     breaks-agree h t lt m = over-ext P (slots_of c) (λ k lk s. breaks_in-agree t k (λ a j la lj.
         let r : reaches (slots_of c) a ≡ true = has-reaches (slots_of c) s la in
         (h t j a lt lj (omega arith) (simp (m, r)), h j t a lj lt (omega arith) (simp (m, r, or-true)))) (side c.mode))
 
-    pub agree_br1 : Agree (scope_of (form_of Kind.BR1) c) n P x y → dev_br1 n P c x ≡ dev_br1 n P c y
+    pub agree_br1 : Agree (scope_of (form_of Br1) c) n P x y → dev_br1 n P c x ≡ dev_br1 n P c y
     unfolding dev_br1
     agree_br1 h = each-ext n c.t1 (λ t lt m. ap (off_target (first_modes c.mode) c.kmax) (breaks-agree h t lt m))
 
-    pub agree_br2 : Agree (scope_of (form_of Kind.BR2) c) n P x y → dev_br2 n P c x ≡ dev_br2 n P c y
+    pub agree_br2 : Agree (scope_of (form_of Br2) c) n P x y → dev_br2 n P c x ≡ dev_br2 n P c y
     unfolding dev_br2 form_of scope_of
     agree_br2 h =
         ap (λ (v : ℕ). off_target (first_modes c.mode) c.kmax v ∷ [])
         (sum-ext n (λ t lt. only-ext (has c.t1 t) (breaks-agree h t lt)))
 
-    pub agree_br4 : Agree (scope_of (form_of Kind.BR4) c) n P x y → dev_br4 n P c x ≡ dev_br4 n P c y
+    pub agree_br4 : Agree (scope_of (form_of Br4) c) n P x y → dev_br4 n P c x ≡ dev_br4 n P c y
     unfolding dev_br4
     agree_br4 h =
         each-ext n c.t1 (λ t lt m. ap (λ (v : ℕ). c.kmin - v) (trips-agree c t (team-agree h t lt m) {f = λ a. 1} (λ a. refl)))
 
-    up_to-agree : Agree (scope_of (form_of Kind.FA1) c) n P x y → (d t : ℕ) → t < n → has c.t1 t ≡ true
+    up_to-agree : Agree (scope_of (form_of Fa1) c) n P x y → (d t : ℕ) → t < n → has c.t1 t ≡ true
         → (k : ℕ) → k < P → has (slots_of c) k ≡ true → games_up_to n x d c.t1 t (suc k) ≡ games_up_to n y d c.t1 t (suc k)
     unfolding form_of scope_of teams_touch slot_touches
     up_to-agree h d t lt m k lk s = games_up_to-agree d c.t1 t (suc k) (λ j a lj la b.
         let r : reaches (slots_of c) a ≡ true = has-reaches (slots_of c) s (omega arith) in
         (h t j a lt lj (omega arith) (simp (m, b, r)), h j t a lj lt (omega arith) (simp (m, b, r))))
 
-    pub agree_fa1 : Agree (scope_of (form_of Kind.FA1) c) n P x y → dev_fa1 n P c x ≡ dev_fa1 n P c y
+    pub agree_fa1 : Agree (scope_of (form_of Fa1) c) n P x y → dev_fa1 n P c x ≡ dev_fa1 n P c y
     unfolding dev_fa1
     agree_fa1 h =
         each-ext n c.t1 (λ t lt m. worst-ext P (slots_of c) (λ k lk s.
         ap₂ (λ (a b : ℕ). dist a b - c.kmax) (up_to-agree h home_side t lt m k lk s) (up_to-agree h away_side t lt m k lk s)))
 
-    pub agree_fa2 : Agree (scope_of (form_of Kind.FA2) c) n P x y → dev_fa2 n P c x ≡ dev_fa2 n P c y
+    pub agree_fa2 : Agree (scope_of (form_of Fa2) c) n P x y → dev_fa2 n P c x ≡ dev_fa2 n P c y
     unfolding dev_fa2 form_of scope_of
     agree_fa2 h =
         each_pair-ext n c.t1 (λ i j li lj mi mj. worst-ext P (slots_of c) (λ k lk s.
         ap₂ (λ (a b : ℕ). dist a b - c.kmax) (up_to-agree h _ i li mi k lk s) (up_to-agree h _ j lj mj k lk s)))
 
-    pub agree_se1 : Agree (scope_of (form_of Kind.SE1) c) n P x y → dev_se1 n P c x ≡ dev_se1 n P c y
+    pub agree_se1 : Agree (scope_of (form_of Se1) c) n P x y → dev_se1 n P c x ≡ dev_se1 n P c y
     unfolding dev_se1 form_of scope_of teams_touch slot_touches
     agree_se1 h = each_pair-ext n c.t1 (λ i j li lj mi mj. closeness-agree c.w i j (λ k lk.
         (h i j k li lj lk (simp (mi, mj)), h j i k lj li lk (simp (mi, mj)))))
 
     agree_of : (k : Kind) → Agree (scope_of (form_of k) c) n P x y → deviations_of k n P c x ≡ deviations_of k n P c y
     unfolding deviations_of
-    agree_of Kind.CA1 h = agree_ca1 h
-    agree_of Kind.CA2 h = agree_ca2 h
-    agree_of Kind.CA3 h = agree_ca3 h
-    agree_of Kind.CA4 h = agree_ca4 h
-    agree_of Kind.CA5 h = agree_ca5 h
-    agree_of Kind.GA1 h = agree_ga1 h
-    agree_of Kind.BR1 h = agree_br1 h
-    agree_of Kind.BR2 h = agree_br2 h
-    agree_of Kind.BR4 h = agree_br4 h
-    agree_of Kind.FA1 h = agree_fa1 h
-    agree_of Kind.FA2 h = agree_fa2 h
-    agree_of Kind.SE1 h = agree_se1 h
-    agree_of Kind.unknown h = refl
+    agree_of Ca1 h = agree_ca1 h
+    agree_of Ca2 h = agree_ca2 h
+    agree_of Ca3 h = agree_ca3 h
+    agree_of Ca4 h = agree_ca4 h
+    agree_of Ca5 h = agree_ca5 h
+    agree_of Ga1 h = agree_ga1 h
+    agree_of Br1 h = agree_br1 h
+    agree_of Br2 h = agree_br2 h
+    agree_of Br4 h = agree_br4 h
+    agree_of Fa1 h = agree_fa1 h
+    agree_of Fa2 h = agree_fa2 h
+    agree_of Se1 h = agree_se1 h
+    agree_of Unknown h = refl
 
     pub agreement : Agree (scope c) n P x y → deviations n P c x ≡ deviations n P c y
     unfolding deviations form_at

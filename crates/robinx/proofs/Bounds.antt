@@ -13,7 +13,9 @@ use Rattle.robinx.specs.Season.{slots_of, most_teams, most_slots, most_byte}
 use Rattle.robinx.specs.Groups.{has, size, is_pair, pairs}
 use Rattle.robinx.specs.Timetable.{X, side, home_side, away_side, first_modes}
 use Rattle.robinx.specs.Timetable.{games_with, games_in, games_against, games_up_to, between, games_between, plays, break_on, breaks_in, meet}
-use Rattle.robinx.specs.Kinds.{Kind, kind_of, form_at}
+use Rattle.robinx.specs.Kinds.{kind_of, form_at}
+use Rattle.robinx.specs.declared.Kind.{Kind}
+use Rattle.robinx.specs.declared.Kind.TheVariants.{Ca1, Ca2, Ca3, Ca4, Ca5, Ga1, Br1, Br2, Br4, Fa1, Fa2, Se1, Unknown}
 use Rattle.robinx.specs.Deviations.{each, each_pair, over, worst, outside, off_target, in_run, trips, trip_games, breaks, too_close, deviations_of, deviations, in_shape, entries}
 use Rattle.robinx.specs.Deviations.{dev_ca1, dev_ca2, dev_ca3, dev_ca4, dev_ca5, dev_ga1, dev_br1, dev_br2, dev_br4, dev_fa1, dev_fa2, dev_se1}
 use Rattle.robinx.specs.Penalty.{sum, sum_of_squares, largest, smallest, combine, penalty}
@@ -198,36 +200,36 @@ module _ (n P : ℕ) (teams : n ≤ most_teams) (slots : P ≤ most_slots) (x : 
 
     bound_of : (k : Kind) → sum (deviations_of k n P c x) ≤ 530400
     unfolding deviations_of dev_ca1 dev_ca2 in_run dev_ca3 dev_ca4 dev_ca5 dev_ga1 dev_br1 dev_br2 dev_br4 dev_fa1 dev_fa2 dev_se1 sum
-    bound_of Kind.CA1 = teams-le c.t1 (λ t lt. omega (arith, over-le 1 (λ k lk. games_in-le d t k lt lk)))
-    bound_of Kind.CA2 = teams-le c.t1 (λ t lt. omega (arith, over-le 1 (λ k lk. games_against-le d c.t2 t k lt lk)))
-    bound_of Kind.CA3 = teams-le c.t1 (λ t lt. le_trans
+    bound_of Ca1 = teams-le c.t1 (λ t lt. omega (arith, over-le 1 (λ k lk. games_in-le d t k lt lk)))
+    bound_of Ca2 = teams-le c.t1 (λ t lt. omega (arith, over-le 1 (λ k lk. games_against-le d c.t2 t k lt lk)))
+    bound_of Ca3 = teams-le c.t1 (λ t lt. le_trans
         (sum_bound (suc P - c.w) 255 (λ a la. omega (arith, sum_bound c.w 1 (λ e le. games_against-le d c.t2 t (a + e) lt (omega arith)))))
         (omega arith))
-    bound_of Kind.CA4 =
+    bound_of Ca4 =
         cond-le sum (first_modes c.mode) _ _
         (omega (arith, over-le most_teams (λ k lk. games_between-le d c.t1 c.t2 k lk)))
         (le_trans (each-bound P (slots_of c) 255 (λ k lk. omega (arith, games_between-le d c.t1 c.t2 k lk))) (omega arith))
-    bound_of Kind.CA5 = teams-le c.t1 trips-le
-    bound_of Kind.GA1 = omega (arith, over-le most_teams (λ k lk. games_between-le home_side c.t1 c.t2 k lk))
-    bound_of Kind.BR1 = teams-le c.t1 (λ t lt. off-le (first_modes c.mode) (65 * most_byte) (omega (arith, breaks-le t)) (omega arith))
-    bound_of Kind.BR2 =
+    bound_of Ca5 = teams-le c.t1 trips-le
+    bound_of Ga1 = omega (arith, over-le most_teams (λ k lk. games_between-le home_side c.t1 c.t2 k lk))
+    bound_of Br1 = teams-le c.t1 (λ t lt. off-le (first_modes c.mode) (65 * most_byte) (omega (arith, breaks-le t)) (omega arith))
+    bound_of Br2 =
         omega (
           arith,
           off-le (first_modes c.mode) (most_teams * 128)
               (le_trans (sum_bound n 128 (λ t lt. only-bound (has c.t1 t) (breaks-le t))) (omega arith)) (omega arith),
         )
-    bound_of Kind.BR4 = teams-le c.t1 (λ t lt. omega arith)
-    bound_of Kind.FA1 =
+    bound_of Br4 = teams-le c.t1 (λ t lt. omega arith)
+    bound_of Fa1 =
         teams-le c.t1 (λ t lt. le_trans (worst-le (λ k lk.
         omega (arith, games_up_to-le home_side c.t1 t (suc k) lt lk, games_up_to-le away_side c.t1 t (suc k) lt lk))) (omega arith))
-    bound_of Kind.FA2 =
+    bound_of Fa2 =
         le_trans (each_pair-bound n c.t1 _)
         (le_trans (sum_bound n (most_teams * most_slots) (λ i li. le_trans (sum_bound n most_slots (λ j lj. worst-le (λ k lk.
         omega (arith, games_up_to-le d c.t1 i (suc k) li lk, games_up_to-le d c.t1 j (suc k) lj lk)))) (omega arith))) (omega arith))
-    bound_of Kind.SE1 =
+    bound_of Se1 =
         le_trans (each_pair-bound n c.t1 _)
         (le_trans (sum_bound n (most_slots * most_byte) (λ i li. omega (arith, closeness-le c.w i li))) (omega arith))
-    bound_of Kind.unknown = omega arith
+    bound_of Unknown = omega arith
 
     pub sum-small : sum (deviations n P c x) ≤ 530400
     unfolding deviations

@@ -11,7 +11,9 @@ use Rattle.robinx.specs.Sums.{sum_to, cat_to, list_to, only, only_l}
 use Rattle.robinx.specs.Groups.{has, size, is_pair, pairs}
 use Rattle.robinx.specs.Season.{Instance, slots_of}
 use Rattle.robinx.specs.Timetable.{X, first_modes}
-use Rattle.robinx.specs.Kinds.{Kind, kind_of, form_of, form_at}
+use Rattle.robinx.specs.Kinds.{kind_of, form_of, form_at}
+use Rattle.robinx.specs.declared.Kind.{Kind}
+use Rattle.robinx.specs.declared.Kind.TheVariants.{Ca1, Ca2, Ca3, Ca4, Ca5, Ga1, Br1, Br2, Br4, Fa1, Fa2, Se1, Unknown}
 use Rattle.robinx.specs.Deviations.{each, each_pair, deviations_of, deviations, in_shape, entries}
 use Rattle.robinx.specs.Deviations.{dev_ca1, dev_ca2, dev_ca3, dev_ca4, dev_ca5, dev_ga1, dev_br1, dev_br2, dev_br4, dev_fa1, dev_fa2, dev_se1}
 use Rattle.robinx.specs.Books.{timetable, deviations_at, penalty_at, entries_at, start_at, all_entries, fresh_ledger, fresh_tally}
@@ -78,19 +80,19 @@ length-cond false a l = refl
 
 length_of : (k : Kind) (n P : ℕ) (c : Constraint) (x : X) → length (deviations_of k n P c x) ≡ in_shape (form_of k).shape n P c
 unfolding form_of deviations_of dev_ca1 dev_ca2 dev_ca3 dev_ca4 dev_ca5 dev_ga1 dev_br1 dev_br2 dev_br4 dev_fa1 dev_fa2 dev_se1
-length_of Kind.CA1 n P c x = length-each n c.t1 _
-length_of Kind.CA2 n P c x = length-each n c.t1 _
-length_of Kind.CA3 n P c x = length-each n c.t1 _
-length_of Kind.CA4 n P c x = length-cond (first_modes c.mode) _ _ ∙ ap (cond (first_modes c.mode) 1) (length-each P (slots_of c) _)
-length_of Kind.CA5 n P c x = length-each n c.t1 _
-length_of Kind.GA1 n P c x = refl
-length_of Kind.BR1 n P c x = length-each n c.t1 _
-length_of Kind.BR2 n P c x = refl
-length_of Kind.BR4 n P c x = length-each n c.t1 _
-length_of Kind.FA1 n P c x = length-each n c.t1 _
-length_of Kind.FA2 n P c x = length-each_pair n c.t1 _
-length_of Kind.SE1 n P c x = length-each_pair n c.t1 _
-length_of Kind.unknown n P c x = refl
+length_of Ca1 n P c x = length-each n c.t1 _
+length_of Ca2 n P c x = length-each n c.t1 _
+length_of Ca3 n P c x = length-each n c.t1 _
+length_of Ca4 n P c x = length-cond (first_modes c.mode) _ _ ∙ ap (cond (first_modes c.mode) 1) (length-each P (slots_of c) _)
+length_of Ca5 n P c x = length-each n c.t1 _
+length_of Ga1 n P c x = refl
+length_of Br1 n P c x = length-each n c.t1 _
+length_of Br2 n P c x = refl
+length_of Br4 n P c x = length-each n c.t1 _
+length_of Fa1 n P c x = length-each n c.t1 _
+length_of Fa2 n P c x = length-each_pair n c.t1 _
+length_of Se1 n P c x = length-each_pair n c.t1 _
+length_of Unknown n P c x = refl
 
 pub length-deviations : (n P : ℕ) (c : Constraint) (x : X) → length (deviations n P c x) ≡ entries n P c
 unfolding deviations entries form_at

@@ -14,7 +14,9 @@ use Rattle.robinx.specs.Sums.{sum_to, only}
 use Rattle.robinx.specs.Groups.{size}
 use Rattle.robinx.specs.Season.{Instance, decode, games, season_length, home_teams, away_teams, most_byte, slots_of, most_teams, most_slots, most_games, most_constraints}
 use Rattle.robinx.specs.Timetable.{clash}
-use Rattle.robinx.specs.Kinds.{Kind, kind_of, asks_of, asks_at}
+use Rattle.robinx.specs.Kinds.{kind_of, asks_of, asks_at}
+use Rattle.robinx.specs.declared.Kind.{Kind}
+use Rattle.robinx.specs.declared.Kind.TheVariants.{Ca1, Ca2, Ca3, Ca4, Ca5, Ga1, Br1, Br2, Br4, Fa1, Fa2, Se1, Unknown}
 use Rattle.robinx.specs.Rules.{fits, asked, holds, function_fits, several_teams, keeps, obeys}
 use Rattle.robinx.specs.Books.{timetable, deviations_at, penalty_at, start_at, total}
 use Rattle.robinx.specs.Refusals.{sentence2, sentence3, encounters, bad_game, sentence4, sentence5}
@@ -51,19 +53,19 @@ asks_for c = asks_at c.kind
 -- the modes of a kind are some of 1 to 6
 modes-of : (k : Kind) → (1 ≤ (asks_of k).first) × ((asks_of k).last ≤ 6)
 unfolding asks_of
-modes-of Kind.CA1 = (omega arith, omega arith)
-modes-of Kind.CA2 = (omega arith, omega arith)
-modes-of Kind.CA3 = (omega arith, omega arith)
-modes-of Kind.CA4 = (omega arith, omega arith)
-modes-of Kind.CA5 = (omega arith, omega arith)
-modes-of Kind.GA1 = (omega arith, omega arith)
-modes-of Kind.BR1 = (omega arith, omega arith)
-modes-of Kind.BR2 = (omega arith, omega arith)
-modes-of Kind.BR4 = (omega arith, omega arith)
-modes-of Kind.FA1 = (omega arith, omega arith)
-modes-of Kind.FA2 = (omega arith, omega arith)
-modes-of Kind.SE1 = (omega arith, omega arith)
-modes-of Kind.unknown = (omega arith, omega arith)
+modes-of Ca1 = (omega arith, omega arith)
+modes-of Ca2 = (omega arith, omega arith)
+modes-of Ca3 = (omega arith, omega arith)
+modes-of Ca4 = (omega arith, omega arith)
+modes-of Ca5 = (omega arith, omega arith)
+modes-of Ga1 = (omega arith, omega arith)
+modes-of Br1 = (omega arith, omega arith)
+modes-of Br2 = (omega arith, omega arith)
+modes-of Br4 = (omega arith, omega arith)
+modes-of Fa1 = (omega arith, omega arith)
+modes-of Fa2 = (omega arith, omega arith)
+modes-of Se1 = (omega arith, omega arith)
+modes-of Unknown = (omega arith, omega arith)
 
 mode-bounds : (c : Constraint) → fits (asks_for c).first (asks_for c).last c.mode ≡ true → (1 ≤ c.mode) × (c.mode ≤ 6)
 unfolding asks_at
@@ -136,10 +138,10 @@ obeyed n P c h =
     }
 
 module _ {n P : ℕ} {c : Constraint} (o : Obeys n P c) where
-  pub known : kind_of c.kind ≢ Kind.unknown
+  pub known : kind_of c.kind ≢ Unknown
   unfolding asks_of asks_at
   known e =
-      let h : fits (asks_of Kind.unknown).first (asks_of Kind.unknown).last c.mode ≡ true =
+      let h : fits (asks_of Unknown).first (asks_of Unknown).last c.mode ≡ true =
       subst (λ k. fits (asks_of k).first (asks_of k).last c.mode ≡ true) e o.mode-in in
       let b = fits_in 1 0 c.mode h in omega arith
 

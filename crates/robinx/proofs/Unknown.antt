@@ -2,7 +2,8 @@
 use mathlib.Core.Path.{◌≡◌}
 use Prim.Native.Nat.{ℕ}
 use borrow.Author.Tests.{ne_eqb}
-use Rattle.robinx.specs.Kinds.{Kind, kind_of}
+use Rattle.robinx.specs.Kinds.{kind_of}
+use Rattle.robinx.specs.declared.Kind.TheVariants.{Unknown}
 
 -- k is none of the twelve numbers
 pub record NoKind (k : ℕ) : Type 0 where
@@ -19,7 +20,7 @@ pub record NoKind (k : ℕ) : Type 0 where
   pub no-42 : k ≡ 42 → ⊥
   pub no-51 : k ≡ 51 → ⊥
 
-pub unknown-kind : (k : ℕ) → NoKind k → kind_of k ≡ Kind.unknown
+pub unknown-kind : (k : ℕ) → NoKind k → kind_of k ≡ Unknown
 unfolding kind_of
 unknown-kind k n =
     rw (

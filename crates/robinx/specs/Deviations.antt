@@ -6,7 +6,9 @@ use Rattle.robinx.specs.Season.{slots_of}
 use Rattle.robinx.specs.Groups.{has, size, is_pair, pairs}
 use Rattle.robinx.specs.Timetable.{X, side, home_side, away_side, first_modes, plays, games_in, games_against, games_up_to, games_between}
 use Rattle.robinx.specs.Timetable.{breaks_in, along_trip, over_trips, meet, last_slot}
-use Rattle.robinx.specs.Kinds.{Kind, kind_of, form_at}
+use Rattle.robinx.specs.Kinds.{kind_of, form_at}
+use Rattle.robinx.specs.declared.Kind.{Kind}
+use Rattle.robinx.specs.declared.Kind.TheVariants.{Ca1, Ca2, Ca3, Ca4, Ca5, Ga1, Br1, Br2, Br4, Fa1, Fa2, Se1, Unknown}
 use Rattle.robinx.specs.declared.Shape.{Shape}
 use Rattle.robinx.specs.declared.Shape.TheVariants.{Nothing, One, EachTeam, EachPair, OneOrEachSlot}
 use Rattle.robinx.specs.declared.Constraint.{Constraint}
@@ -118,19 +120,19 @@ unfoldable pub dev_se1 : ℕ → ℕ → Constraint → X → List ℕ
 dev_se1 n P c x = each_pair n c.t1 (λ i j. sum_to (too_close (meet x i j) c.w) P)
 
 unfoldable pub deviations_of : Kind → ℕ → ℕ → Constraint → X → List ℕ
-deviations_of Kind.CA1 = dev_ca1
-deviations_of Kind.CA2 = dev_ca2
-deviations_of Kind.CA3 = dev_ca3
-deviations_of Kind.CA4 = dev_ca4
-deviations_of Kind.CA5 = dev_ca5
-deviations_of Kind.GA1 = dev_ga1
-deviations_of Kind.BR1 = dev_br1
-deviations_of Kind.BR2 = dev_br2
-deviations_of Kind.BR4 = dev_br4
-deviations_of Kind.FA1 = dev_fa1
-deviations_of Kind.FA2 = dev_fa2
-deviations_of Kind.SE1 = dev_se1
-deviations_of Kind.unknown = λ n P c x. []
+deviations_of Ca1 = dev_ca1
+deviations_of Ca2 = dev_ca2
+deviations_of Ca3 = dev_ca3
+deviations_of Ca4 = dev_ca4
+deviations_of Ca5 = dev_ca5
+deviations_of Ga1 = dev_ga1
+deviations_of Br1 = dev_br1
+deviations_of Br2 = dev_br2
+deviations_of Br4 = dev_br4
+deviations_of Fa1 = dev_fa1
+deviations_of Fa2 = dev_fa2
+deviations_of Se1 = dev_se1
+deviations_of Unknown = λ n P c x. []
 
 unfoldable pub deviations : ℕ → ℕ → Constraint → X → List ℕ
 deviations n P c x = deviations_of (kind_of c.kind) n P c x

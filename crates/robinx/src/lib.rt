@@ -3,6 +3,7 @@
 #![tactic(auto)]
 
 ghost use Rattle.std.specs.Prelude.{◌≡◌};
+ghost use Rattle.robinx.specs.Kinds.{kind_of};
 ghost use Rattle.robinx.specs.RefusalNumbers.{number_of};
 
 // The sizes of a season.
@@ -46,6 +47,64 @@ pub struct Constraint {
     pub t1: u32,
     pub t2: u32,
     pub s: Slots,
+}
+
+// The kinds by RobinX's names, and what is no kind. That has a row of its own in specs/Kinds.antt: no mode, so that it breaks the rules, and
+// neither deviations nor changes. As a kind it needs no branch anywhere; as the None of an Option it would need one wherever a kind is used.
+#[derive(Clone, Copy, Debug, PartialEq, Eq)]
+pub enum Kind {
+    Ca1,
+    Ca2,
+    Ca3,
+    Ca4,
+    Ca5,
+    Ga1,
+    Br1,
+    Br2,
+    Br4,
+    Fa1,
+    Fa2,
+    Se1,
+    Unknown,
+}
+
+impl Kind {
+    // The kind with this number, decided by its class, then in it: the form that the customer named.
+    #[tactic(auto, unfolding(crate::specs::Kinds::kind_of))]
+    pub fn of(number: u8) -> Self
+        ensures { result ≡ kind_of number }
+    {
+        match number {
+            10..=19 => match number {
+                11 => Kind::Ca1,
+                12 => Kind::Ca2,
+                13 => Kind::Ca3,
+                14 => Kind::Ca4,
+                15 => Kind::Ca5,
+                _ => Kind::Unknown,
+            },
+            20..=29 => match number {
+                21 => Kind::Ga1,
+                _ => Kind::Unknown,
+            },
+            30..=39 => match number {
+                31 => Kind::Br1,
+                32 => Kind::Br2,
+                34 => Kind::Br4,
+                _ => Kind::Unknown,
+            },
+            40..=49 => match number {
+                41 => Kind::Fa1,
+                42 => Kind::Fa2,
+                _ => Kind::Unknown,
+            },
+            50..=59 => match number {
+                51 => Kind::Se1,
+                _ => Kind::Unknown,
+            },
+            _ => Kind::Unknown,
+        }
+    }
 }
 
 // What a kind asks of a field, besides that it is in range: that it is 0, nothing, that it is at most kmax, that it is not 0. A group that

@@ -1,10 +1,8 @@
--- The classes of kinds, a ten each.
-use native.Mathlib.Omega.{arith}
-use Rattle.kind_rules.proofs.RulesByNumber.{asked-none}
+-- What keeps the rules is of a kind. Assumes nothing.
+use mathlib.Core.Path.{sym}
+use Rattle.robinx.proofs.Sums.{never}
+use Rattle.robinx.proofs.Limits.{obeyed, known}
 use Rattle.kind_rules.proofs.obeys.Goals as goal
 
-pub returns-in_default : goal.returns-in_default
-returns-in_default c = asked-none _ _ c.args.c (omega arith)
-
-pub returns-in_default-2 : goal.returns-in_default-2
-returns-in_default-2 c = asked-none _ _ c.args.c (omega arith)
+pub returns-in-Unknown : goal.returns-in-Unknown
+returns-in-Unknown c = sym (never _ (λ o. known (obeyed _ _ _ o) (sym c.in-Unknown.ensures)))
