@@ -7,7 +7,6 @@ ghost use Rattle.robinx.specs.Season.{most_teams, most_places};
 ghost use Rattle.robinx.specs.Refusals.{sentence4};
 ghost use Rattle.games.specs.Meetings.{pair_at, refused, of_games};
 
-use reader::wide;
 use robinx::Season;
 
 // The place of two teams' meetings, whichever is at home.
@@ -15,28 +14,24 @@ fn pair(i: usize, j: usize) -> usize
     requires { (i < most_teams) × (j < most_teams) }
     ensures { (result ≡ pair_at i j) × (result < most_places) }
 {
-    if i < j {
-        i * Season::TEAMS + j
-    } else {
-        j * Season::TEAMS + i
-    }
+    i.min(j) * Season::TEAMS + i.max(j)
 }
 
 // Whether a game cannot be, after the games that are counted. One that can be is counted.
+#[tactic(auto, unfolding(crate::specs::Meetings::refused))]
 fn game_bad(counts: &mut [u8; Season::PLACES], i: usize, j: usize, n: usize) -> bool
     requires { n ≤ most_teams }
     ensures { (result ≡ refused counts.old i j n)
         × (result ≡ false → counts.new ≡ set counts.old (pair_at i j) (get_or counts.old (pair_at i j) 0 + 1)) }
 {
-    if (n <= i) | (n <= j) | (i == j) {
+    if n <= i || n <= j || i == j {
         return true;
     }
     let k = pair(i, j);
-    let met = counts[k];
-    if Season::MEETINGS <= wide(met) {
+    if Season::MEETINGS <= usize::from(counts[k]) {
         return true;
     }
-    counts[k] = met + 1;
+    counts[k] += 1;
     false
 }
 
@@ -46,12 +41,10 @@ pub fn games_bad(homes: &[u8], aways: &[u8], n: usize) -> bool
     ensures { result ≡ sentence4 (of_games n homes.now aways.now) }
 {
     let mut counts = [0u8; Season::PLACES];
-    let mut g = 0;
-    while g < homes.len() {
-        if game_bad(&mut counts, wide(homes[g]), wide(aways[g]), n) {
+    for (&i, &j) in homes.iter().zip(aways) {
+        if game_bad(&mut counts, usize::from(i), usize::from(j), n) {
             return true;
         }
-        g += 1;
     }
     false
 }

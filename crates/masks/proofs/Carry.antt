@@ -1,7 +1,10 @@
 -- The slots of a side's breaks by one addition: the complement of all games plus the side's games, each one slot later. A slot without a
 -- game is a 1 and hands a carry on, a slot with one is a 0 and keeps it: the carry into a slot says that the last game was of the side.
--- Assumes nothing.
-use Rattle.std.proofs.Common.{◌≡◌, ℕ, zero, suc, ◌+◌, ◌-◌, ◌*◌, ◌/◌, ◌%◌, ◌^◌, ◌<◌, ◌≤◌, min, Bool, cond, ◌&&◌, eqb, sym, refl, ap, ◌∙◌, ap₂, pow-suc, div-one, add-one, arith, shr-shr}
+use Rattle.std.proofs.Common.{◌≡◌, ℕ, zero, suc, ◌+◌, ◌-◌, ◌*◌, ◌/◌, ◌%◌, ◌^◌, ◌<◌, ◌≤◌, min, Bool, cond, ◌&&◌, eqb}
+use Rattle.std.proofs.Common.{sym, refl, ap, ◌∙◌, ap₂, div-one, add-one, arith, shr-shr}
+use Rattle.std.specs.Int.{Width, bit_not}
+use Rattle.std.proofs.lemmas.Nat.Bits.{bit_at_not}
+use mir.Val.{bits}
 use lib.Bits.{bit_and, bit_or}
 use Rattle.robinx.specs.Sums.{only}
 use Rattle.robinx.specs.Groups.{bit, has}
@@ -9,17 +12,7 @@ use Rattle.robinx.specs.Timetable.{last_was}
 use Rattle.robinx.proofs.Sums.{only-le}
 use Rattle.robinx.proofs.Ext.{last_was-ext}
 use Rattle.masks.specs.Masks.{Within, is_break}
-use Rattle.robinx.proofs.Bits.{at_bits, and-bit, or-bit, half-bit, mod-bit}
-
--- bits of the complement
-comp-bit : (k K w : ℕ) → k < K → w < 2 ^ K → bit (2 ^ K - 1 - w) k ≡ 1 - bit w k
-comp-bit k zero w l h = absurd (omega arith)
-comp-bit zero (suc K) w l h = omega (arith, pow-suc 2 K, div-one w, div-one (2 ^ suc K - 1 - w))
-comp-bit (suc k) (suc K) w l h =
-    let e : (2 ^ suc K - 1 - w) / 2 ≡ 2 ^ K - 1 - w / 2 = omega (arith, pow-suc 2 K) in
-    sym (half-bit (2 ^ suc K - 1 - w) k) ∙ ap (λ (z : ℕ). bit z k) e
-    ∙ comp-bit k K (w / 2) (omega arith) (omega (arith, pow-suc 2 K))
-    ∙ ap (λ (z : ℕ). 1 - z) (half-bit w k)
+use Rattle.robinx.proofs.Bits.{at_bits, and-bit, or-bit, mod-bit}
 
 shr-suc : (n k : ℕ) → n / 2 ^ suc k ≡ n / 2 ^ k / 2
 shr-suc n k = ap (λ (z : ℕ). n / 2 ^ z) (sym (add-one k)) ∙ sym (shr-shr n k 1)
@@ -37,7 +30,7 @@ sum-shr f s (suc k) = omega (arith, shr-suc (f + s * 2) k, shr-suc f k, shr-suc 
 pub sum-bit : (f s k : ℕ) → bit (f + s * 2) k ≡ (bit f k + carry f s k) % 2
 sum-bit f s k = omega (arith, sum-shr f s k)
 
-module _ (K side all : ℕ) (h : all < 2 ^ K) (part : Within side all) where
+module _ (w : Width) (side all : ℕ) (h : all < 2 ^ bits w) (part : Within side all) where
   last : ℕ → Bool
   last = last_was (has all) (has side)
 
@@ -48,12 +41,12 @@ module _ (K side all : ℕ) (h : all < 2 ^ K) (part : Within side all) where
       (λ p. omega (arith, only-le l 1)) (λ p. omega (arith, only-le l 1)) (λ p. absurd (omega arith)) (λ p. omega (arith, only-le l 1))
       side all k (part k)
 
-  carried : (k : ℕ) → k ≤ K → only (last k) 1 ≡ carry (2 ^ K - 1 - all) side k
+  carried : (k : ℕ) → k ≤ bits w → only (last k) 1 ≡ carry (bit_not w all) side k
   unfolding last last_was carry
   carried zero l = refl
   carried (suc k) l =
       carry-on k (last k)
-      ∙ ap₂ (λ (x y : ℕ). bit side k + (x + y) / 2) (sym (comp-bit k K all (omega arith) h)) (carried k (omega arith))
+      ∙ ap₂ (λ (x y : ℕ). bit side k + (x + y) / 2) (sym (bit_at_not w all k h (omega arith))) (carried k (omega arith))
 
   meets : (k : ℕ) (l : Bool) → min (bit side k) ((1 - bit all k + only l 1) % 2) ≡ only (has side k && l) 1
   meets k l =
@@ -61,13 +54,13 @@ module _ (K side all : ℕ) (h : all < 2 ^ K) (part : Within side all) where
       (λ p. omega arith) (λ p. omega arith) (λ p. absurd (omega arith)) (λ p. omega (arith, only-le l 1))
       side all k (part k)
 
-  pub carry-breaks : (k : ℕ) → k < K → bit (bit_and side ((2 ^ K - 1 - all + side * 2) % 2 ^ K)) k ≡ only (is_break side all k) 1
+  pub carry-breaks : (k : ℕ) → k < bits w → bit (bit_and side ((bit_not w all + side * 2) % 2 ^ bits w)) k ≡ only (is_break side all k) 1
   unfolding last
   carry-breaks k l =
-      and-bit side ((2 ^ K - 1 - all + side * 2) % 2 ^ K) k
+      and-bit side ((bit_not w all + side * 2) % 2 ^ bits w) k
       ∙ ap (min (bit side k))
-      (mod-bit K k (2 ^ K - 1 - all + side * 2) l ∙ sum-bit (2 ^ K - 1 - all) side k
-      ∙ ap₂ (λ (x y : ℕ). (x + y) % 2) (comp-bit k K all l h) (sym (carried k (omega arith))))
+      (mod-bit (bits w) k (bit_not w all + side * 2) l ∙ sum-bit (bit_not w all) side k
+      ∙ ap₂ (λ (x y : ℕ). (x + y) % 2) (bit_at_not w all k h l) (sym (carried k (omega arith))))
       ∙ meets k (last k)
 
 -- a mask is within its union with another

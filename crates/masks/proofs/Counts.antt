@@ -1,4 +1,4 @@
--- A count of set bits is a sum over slots. Assumes nothing.
+-- A count of set bits is a sum over slots.
 use Rattle.std.proofs.Common.{◌≡◌, ℕ, ◌^◌, ◌<◌, Bool, true, false, ◌&&◌, sym, refl, ap, ◌∙◌, arith}
 use lib.Bits.{bit_and, and_le_r}
 use lib.Count.{ones}

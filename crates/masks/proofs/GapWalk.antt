@@ -1,4 +1,4 @@
--- The closeness of a mask's games, from one set bit to the next: the slots passed over change nothing. Assumes nothing.
+-- The closeness of a mask's games, from one set bit to the next: the slots passed over change nothing.
 use Rattle.std.proofs.Common.{◌≡◌, ℕ, ◌+◌, ◌-◌, ◌*◌, ◌/◌, ◌^◌, ◌<◌, ◌≤◌, Bool, ltb, sym, refl, ap, ◌∙◌, add-one, arith, lt-ltb}
 use lib.Count.{count_trailing_zeros}
 use Rattle.robinx.specs.Season.{most_slots}

@@ -1,4 +1,4 @@
--- A sum over the slots of a mask, over those without one of them, and over none. Assumes nothing.
+-- A sum over the slots of a mask, over those without one of them, and over none.
 use Rattle.std.proofs.Common.{◌≡◌, ℕ, zero, suc, ◌+◌, ◌<◌, Bool, true, eqb, sym, ap, ◌∙◌, arith}
 use native.Mathlib.Decide.{ℕ_discrete}
 use Rattle.robinx.specs.Sums.{sum_to, only}

@@ -1,12 +1,25 @@
--- A mask with a slot, and without it. Assumes nothing.
-use Rattle.std.proofs.Common.{◌≡◌, ℕ, ◌+◌, ◌^◌, ◌<◌, max, Bool, true, false, eqb, refl, ap, ◌∙◌, ap₂, arith, eq-eqb, ne_eqb, eqb-true}
-use lib.Bits.{differ, or_lt, xor_lt}
+-- A mask with a slot, and without it.
+use Rattle.std.proofs.Common.{◌≡◌, ℕ, ◌+◌, ◌-◌, ◌^◌, ◌<◌, min, max, Bool, true, false, eqb}
+use Rattle.std.proofs.Common.{sym, refl, ap, ◌∙◌, ap₂, arith, eq-eqb, ne_eqb, eqb-true}
+use Rattle.std.specs.Int.{Width, bit_not}
+use Rattle.std.proofs.lemmas.Nat.Bits.{bit_at_not, same_from_bits_below}
+use mir.Val.{bits}
+use lib.Bits.{differ, bit_and, bit_or, bit_xor, and_le_l, or_lt, xor_lt}
 use lib.Pow.{pow-lt}
 use borrow.Author.Tests.{eqb-false}
 use Rattle.robinx.specs.Sums.{only}
 use Rattle.robinx.specs.Groups.{bit}
 use Rattle.masks.specs.Masks.{joined, without}
-use Rattle.robinx.proofs.Bits.{at_bits, bit-lt, or-bit, xor-bit, one_bit}
+use Rattle.robinx.proofs.Bits.{at_bits, bit-lt, and-bit, or-bit, xor-bit, one_bit}
+
+-- `m & !s`, however wide, as two other operations
+pub and-not : (w : Width) (m s : ℕ) → m < 2 ^ bits w → s < 2 ^ bits w → bit_and m (bit_not w s) ≡ bit_xor (bit_or m s) s
+and-not w m s h g =
+    same_from_bits_below (bits w) _ _ (omega (arith, and_le_l m (bit_not w s))) (xor_lt (bits w) _ s (or_lt (bits w) m s h g) g)
+    (λ i l.
+    and-bit m (bit_not w s) i ∙ ap (min (bit m i)) (bit_at_not w s i g l)
+    ∙ at_bits (λ x y. min x (1 - y) ≡ differ (max x y) y) refl refl refl refl m s i
+    ∙ sym (xor-bit (bit_or m s) s i ∙ ap (λ (z : ℕ). differ z (bit s i)) (or-bit m s i)))
 
 module _ (m k : ℕ) where
   joined-max : (a : ℕ) → bit (joined m k) a ≡ max (bit m a) (only (eqb a k) 1)

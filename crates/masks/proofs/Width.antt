@@ -1,4 +1,4 @@
--- Figures over slots, none of which counts from P on, may stop at P. Assumes nothing.
+-- Figures over slots, none of which counts from P on, may stop at P.
 use Rattle.std.proofs.Common.{◌≡◌, ℕ, ◌^◌, ◌<◌, ◌≤◌, Bool, false}
 use Rattle.robinx.specs.Sums.{sum_to, only}
 use Rattle.robinx.specs.Groups.{has}

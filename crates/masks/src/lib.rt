@@ -33,14 +33,14 @@ pub fn is_none(s: Slots) -> bool
 pub fn is_some(s: Slots) -> bool
     ensures { result ≡ nat_le 1 s }
 {
-    1 <= s
+    s != 0
 }
 
 // Read as a number it is at most k.
 pub fn up_to(s: Slots, k: u8) -> bool
     ensures { result ≡ nat_le s k }
 {
-    s <= k as u64
+    s <= u64::from(k)
 }
 
 // The first p slots.
@@ -63,7 +63,7 @@ pub fn is_among(s: Slots, p: usize) -> bool
 pub fn size(s: Slots) -> usize
     ensures { (result ≡ count_ones s) × (result ≤ most_slots) }
 {
-    u64::count_ones(s) as usize
+    s.count_ones() as usize
 }
 
 // Slot k is in the mask.
@@ -79,7 +79,7 @@ pub fn bit_at(s: Slots, k: usize) -> u8
     requires { k < most_slots }
     ensures { result ≡ bit s k }
 {
-    ((s >> k) % 2) as u8
+    u8::from(is_in(s, k as u64))
 }
 
 // The mask's first eight slots, as a byte.
@@ -125,8 +125,7 @@ pub fn without(m: Slots, k: u64) -> Slots
     requires { k < most_slots }
     ensures { result ≡ without m k }
 {
-    let b = slot(k);
-    (m | b) ^ b
+    m & !slot(k)
 }
 
 // The slots of either mask.
@@ -148,7 +147,7 @@ pub fn first(m: Slots) -> u64
     requires { 0 < m }
     ensures { First m result }
 {
-    u64::trailing_zeros(m) as u64
+    u64::from(m.trailing_zeros())
 }
 
 // The mask's slots among the first p.
@@ -167,15 +166,14 @@ pub fn front(m: Slots, p: u64) -> Slots
 pub fn last_in(m: Slots, s: Slots) -> bool
     ensures { result ≡ last_was (has m) (has s) most_slots }
 {
-    let inside = m & s;
-    (m ^ inside) < inside
+    (m & !s) < (m & s)
 }
 
 // How many slots of m are in s.
 pub fn count_in(m: Slots, s: Slots) -> u32
     ensures { result ≡ over most_slots s (bit m) }
 {
-    u64::count_ones(m & s)
+    (m & s).count_ones()
 }
 
 // The slots of the breaks of a side, whose games are some of all.
@@ -183,7 +181,7 @@ fn break_mask(side: Slots, all: Slots) -> Slots
     requires { Within side all }
     ensures { Breaks most_slots side all result }
 {
-    side & std::num::wrapping_add_u64(u64::MAX - all, side << 1)
+    side & (!all).wrapping_add(side << 1)
 }
 
 // The breaks of a side in the slots of s.
@@ -198,7 +196,7 @@ pub fn breaks_in(side: Slots, all: Slots, s: Slots) -> u32
 pub fn trip_starts(away: Slots, home: Slots) -> Slots
     ensures { Marks most_slots (starts_trip (has away) (has home)) result }
 {
-    away ^ break_mask(away, union(away, home))
+    away & !break_mask(away, union(away, home))
 }
 
 // The slots of the run of away games that starts in slot a: up to the next home game. The home games, read as a number, less slot a: this borrows
@@ -207,16 +205,14 @@ pub fn trip_from(away: Slots, home: Slots, a: u64) -> Slots
     requires { a < most_slots }
     ensures { Marks most_slots (on_trip (has away) (has home) a) result }
 {
-    let borrowed = std::num::wrapping_sub_u64(home, slot(a));
-    away & (borrowed ^ (borrowed & home))
+    away & home.wrapping_sub(slot(a)) & !home
 }
 
 // How many slots fewer than w lie between two games that have gap slots between them.
 fn too_close(w: u8, gap: u32) -> u32
     ensures { (result ≡ w - gap) × (result ≤ 255) }
 {
-    let least = w as u32;
-    if gap < least { least - gap } else { 0 }
+    u32::from(w).saturating_sub(gap)
 }
 
 // How many slots fewer than w lie between a game of the mask and the one before it, summed: from one set bit to the next.
@@ -226,11 +222,11 @@ pub fn closeness(v: Slots, w: u8) -> u32
     if v == 0 {
         return 0;
     }
-    let first = u64::trailing_zeros(v);
+    let first = v.trailing_zeros();
     let mut c: u32 = 0;
     let mut rest = (v >> first) >> 1;
     while rest != 0 {
-        let z = u64::trailing_zeros(rest);
+        let z = rest.trailing_zeros();
         c += too_close(w, z);
         rest = (rest >> z) >> 1;
     }

@@ -20,33 +20,27 @@ pub struct Played {
 pub fn word(change: i64) -> u64
     ensures { result ≡ word change }
 {
-    if change < 0 {
-        return u64::MAX - ((-1 - change) as u64);
-    }
-    change as u64
+    change.cast_unsigned()
 }
 
 impl Played {
     pub fn of(opening: Reply) -> Self
         ensures { result ≡ begun opening }
     {
-        let hard = word(opening.infeasibility);
-        let soft = word(opening.objective);
         Self {
             reply: opening,
-            infeasibility: hard,
-            objective: soft,
+            infeasibility: word(opening.infeasibility),
+            objective: word(opening.objective),
         }
     }
 
-    pub fn then(mut self, reply: Reply) -> Self
+    pub fn then(self, reply: Reply) -> Self
         ensures { result ≡ with_reply self reply }
     {
-        let hard = word(reply.infeasibility);
-        let soft = word(reply.objective);
-        self.reply = reply;
-        self.infeasibility = std::num::wrapping_add_u64(self.infeasibility, hard);
-        self.objective = std::num::wrapping_add_u64(self.objective, soft);
-        self
+        Self {
+            reply,
+            infeasibility: self.infeasibility.wrapping_add(word(reply.infeasibility)),
+            objective: self.objective.wrapping_add(word(reply.objective)),
+        }
     }
 }

@@ -1,5 +1,5 @@
 -- Running totals, hard and soft at once, and their change. Assumes nothing.
-use Rattle.std.proofs.Common.{◌≡◌, ℕ, zero, suc, ◌+◌, ◌-◌, ◌%◌, ◌^◌, Bool, true, false, ◌&&◌, List, pos, negsuc, ◌-ℤ◌, refl, ◌∙◌, add-zero, zero-add}
+use Rattle.std.proofs.Common.{◌≡◌, ℕ, ◌+◌, ◌-◌, ◌%◌, ◌^◌, Bool, true, false, ◌&&◌, List, ◌∙◌, add-zero}
 use native.Mathlib.Nat.{mod-add-mod}
 use Rattle.robinx.specs.Sums.{sum_to, only}
 use Rattle.robinx.specs.Season.{Instance}
@@ -10,10 +10,6 @@ use Rattle.robinx.specs.declared.Constraint.{Constraint}
 use Rattle.totals.specs.declared.Totals.{Totals}
 use Rattle.robinx.proofs.Sums.{sum_step}
 use Rattle.totals.specs.RunningTotals.{TotalsOf, Adds}
-
-pub minus-one-less : (m : ℕ) → negsuc 0 -ℤ pos m ≡ negsuc m
-minus-one-less zero = refl
-minus-one-less (suc m) = rw zero-add
 
 -- a sum with one constraint more
 abbrev pub Grown : ((Constraint → Bool) → ℕ) → Constraint → ℕ → ((Constraint → Bool) → ℕ) → Type 0

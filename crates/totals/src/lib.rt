@@ -9,20 +9,21 @@ ghost use Rattle.robinx.specs.Sums.{only};
 ghost use Rattle.totals.specs.RunningTotals.{moved_by};
 
 // The two running totals: infeasibility and objective.
-#[derive(Clone, Copy)]
+#[derive(Clone, Copy, Debug, Default, PartialEq, Eq)]
 pub struct Totals {
     pub hard: u64,
     pub soft: u64,
 }
 
-// A penalty is added modulo 2^64, which is exact for correct books: both totals stay below 2^60.
+// A penalty is added modulo 2^64, which is exact for correct books: both totals stay below 2^60. The totals go in and out by value: the
+// customer named this form.
 impl Totals {
     pub fn add_hard(self, penalty: u64) -> Self
         ensures { (result.hard ≡ (self.hard + penalty) % 2 ^ 64) × (result.soft ≡ self.soft) }
     {
         Self {
-            hard: std::num::wrapping_add_u64(self.hard, penalty),
-            soft: self.soft,
+            hard: self.hard.wrapping_add(penalty),
+            ..self
         }
     }
 
@@ -30,8 +31,8 @@ impl Totals {
         ensures { (result.hard ≡ self.hard) × (result.soft ≡ (self.soft + penalty) % 2 ^ 64) }
     {
         Self {
-            hard: self.hard,
-            soft: std::num::wrapping_add_u64(self.soft, penalty),
+            soft: self.soft.wrapping_add(penalty),
+            ..self
         }
     }
 }
@@ -42,26 +43,27 @@ pub fn added(t: Totals, hard: u8, p: u64) -> Totals
         × (result.soft ≡ (t.soft + only (not (hard == 1)) p) % 2 ^ 64) }
 {
     if hard == 1 {
-        return t.add_hard(p);
+        t.add_hard(p)
+    } else {
+        t.add_soft(p)
     }
-    t.add_soft(p)
 }
 
 // What was gained less what was lost.
 pub fn change_of(gained: u64, lost: u64) -> u64
     ensures { result ≡ (gained + (2 ^ 64 - lost)) % 2 ^ 64 }
 {
-    std::num::wrapping_sub_u64(gained, lost)
+    gained.wrapping_sub(lost)
 }
 
 // A total moved by a change.
 pub fn moved_total(old: u64, change: u64) -> u64
     ensures { result ≡ (old + change) % 2 ^ 64 }
 {
-    std::num::wrapping_add_u64(old, change)
+    old.wrapping_add(change)
 }
 
-// Moves both totals, each by its own change.
+// Moves both totals, each by its own change. It changes what is lent to it: the customer named this form.
 fn apply(totals: &mut Totals, change: Totals)
     ensures { totals.new ≡ moved_by totals.old change }
 {
@@ -81,8 +83,5 @@ pub fn moved(mut totals: Totals, change: Totals) -> Totals
 pub fn signed(d: u64) -> i64
     ensures { result ≡ to_z w64 d }
 {
-    if d < 0x8000_0000_0000_0000 {
-        return d as i64;
-    }
-    -1 - ((u64::MAX - d) as i64)
+    d.cast_signed()
 }

@@ -1,4 +1,4 @@
--- `masks::all` meets its contract: a word of ones, less all but p of them. Assumes nothing.
+-- `u64::MAX >> (64 - p)` leaves p ones.
 use Rattle.std.proofs.Common.{arith}
 use Rattle.robinx.proofs.Bits.{all-below}
 use Rattle.masks.proofs.all.Goals as goal

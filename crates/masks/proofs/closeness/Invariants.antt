@@ -1,4 +1,4 @@
--- `masks::closeness` meets its contract. Before each turn the sum is that of the slots up to the last game, and the rest is the mask
+-- Before each turn the sum is that of the slots up to the last game.
 use Rattle.masks.proofs.GapWalk.{Summed}
 use Rattle.masks.proofs.closeness.Given as goal
 

@@ -1,4 +1,4 @@
--- `masks::count_in` meets its contract. Assumes nothing.
+-- The ones of both masks are a sum over the slots of one.
 use Rattle.std.proofs.Common.{rules}
 use Rattle.masks.proofs.Counts.{ones_over}
 use Rattle.masks.proofs.count_in.Goals as goal

@@ -1,8 +1,10 @@
--- `masks::trip_from` meets its contract. Assumes nothing.
+-- The home games less the slot that the run starts in: what this sets is the slots up to the next home game.
+use Rattle.std.proofs.Common.{arith, rules}
+use Rattle.std.specs.Int.{w64}
 use Rattle.masks.proofs.Borrow.{trip-has}
 use Rattle.masks.proofs.trip_from.Goals as goal
 
 pub returns : goal.returns
 returns c k l =
     let a = c.args in
-    trip-has 64 a.home c.wrapping_sub_u64-borrowed.result a.a (rw (← c.slot.ensures) c.wrapping_sub_u64-borrowed.ensures.value) a.away k l
+    trip-has w64 a.home _ a.a (search rules) (rw (← c.slot.ensures) (omega arith)) a.away k l

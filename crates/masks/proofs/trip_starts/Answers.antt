@@ -1,4 +1,6 @@
--- `masks::trip_starts` meets its contract. Assumes nothing.
+-- Away games that are no break.
+use Rattle.std.proofs.Common.{rules}
+use Rattle.std.specs.Int.{w64}
 use Rattle.masks.proofs.Carry.{within-left}
 use Rattle.masks.proofs.TripStarts.{start_has}
 use Rattle.masks.proofs.trip_starts.Goals as goal
@@ -9,4 +11,4 @@ break_mask-requires c = rw c.union.ensures (within-left c.args.away c.args.home)
 pub returns : goal.returns
 returns c k l =
     let a = c.args in
-    start_has a.away a.home c.break_mask.result k (rw (← c.union.ensures) (c.break_mask.ensures k l))
+    start_has w64 a.away a.home c.break_mask.result k (search rules) l (rw (← c.union.ensures) (c.break_mask.ensures k l))
