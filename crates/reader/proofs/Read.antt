@@ -28,6 +28,8 @@ module _ (s : List ℕ) {z : Season} (e : z ≡ sizes_of s) where
   unfolding sizes_of decode
   constraints-read = ap (λ (y : Season). y.constraints) e
 
+  pub ruleset sizes_read = (teams-read, slots_read, games-read, constraints-read)
+
   pub length-asked : season_length s ≡ 6 + 2 * z.games + 24 * z.constraints
   unfolding season_length decode
   length-asked = rw (games-read, constraints-read)

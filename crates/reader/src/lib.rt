@@ -4,7 +4,7 @@
 
 pub mod cursor; // cursor.rt: one reader that moves over the constraints
 
-ghost use Rattle.std.specs.Prelude.{◌≡◌, ◌+◌, ◌*◌, ◌<◌, ◌≤◌, length};
+ghost use Rattle.std.specs.Prelude.{◌≡◌, ℕ, ◌+◌, ◌*◌, ◌<◌, ◌≤◌, length, slice_index};
 ghost use Rattle.robinx.specs.Season.{number, decode, home_teams, away_teams, constraint_from};
 ghost use Rattle.reader.specs.Sizes.{sizes_of, Measured};
 
@@ -14,50 +14,59 @@ use robinx::{Constraint, Season};
 pub fn wide(x: u8) -> usize
     ensures { (result ≡ x) × (result < 256) }
 {
-    x as usize
+    usize::from(x)
+}
+
+// N bytes from a place on.
+fn bytes<const N: usize>(s: &[u8], at: usize) -> [u8; N]
+    requires { at + N ≤ length s.now }
+    ensures { (i : ℕ) → i < N → slice_index result i ≡ slice_index s.now (at + i) }
+{
+    s[at..at + N].try_into().unwrap()
 }
 
 // Two bytes.
+#[tactic(auto, unfolding(robinx::specs::Season::number))]
 pub fn short(s: &[u8], at: usize) -> usize
     requires { at + 2 ≤ length s.now }
     ensures { (result ≡ number 2 s.now at) × (result < 65536) }
 {
-    wide(s[at]) + wide(s[at + 1]) * 256
+    usize::from(u16::from_le_bytes(bytes(s, at)))
 }
 
 // Four bytes.
+#[tactic(auto, unfolding(robinx::specs::Season::number))]
 pub fn word(s: &[u8], at: usize) -> u32
     requires { at + 4 ≤ length s.now }
     ensures { result ≡ number 4 s.now at }
 {
-    let low = short(s, at);
-    let high = short(s, at + 2);
-    (low + high * 65536) as u32
+    u32::from_le_bytes(bytes(s, at))
 }
 
 // Eight bytes.
+#[tactic(auto, unfolding(robinx::specs::Season::number))]
 pub fn long(s: &[u8], at: usize) -> u64
     requires { at + 8 ≤ length s.now }
     ensures { result ≡ number 8 s.now at }
 {
-    let low = word(s, at);
-    let high = word(s, at + 4);
-    low as u64 + high as u64 * 4294967296
+    u64::from_le_bytes(bytes(s, at))
 }
 
+#[tactic(auto, unfolding(crate::specs::Sizes::sizes_of, robinx::specs::Season::teams, robinx::specs::Season::slots, robinx::specs::Season::games, robinx::specs::Season::constraints))]
 pub fn sizes(season: &[u8]) -> Season
     requires { 6 ≤ length season.now }
     ensures { result ≡ sizes_of season.now }
 {
     Season {
-        teams: wide(season[0]),
-        slots: wide(season[1]),
+        teams: usize::from(season[0]),
+        slots: usize::from(season[1]),
         games: short(season, 2),
         constraints: short(season, 4),
     }
 }
 
 // The home team of each game.
+#[tactic(auto, using(crate::proofs::Read::sizes_read), unfolding(robinx::specs::Season::home_teams, robinx::specs::Season::decode))]
 pub fn homes(season: &[u8], z: Season) -> &[u8]
     requires { Measured season.now z }
     ensures { result.now ≡ home_teams season.now }
@@ -67,6 +76,7 @@ pub fn homes(season: &[u8], z: Season) -> &[u8]
 }
 
 // The away team of each game.
+#[tactic(auto, using(crate::proofs::Read::sizes_read), unfolding(robinx::specs::Season::away_teams, robinx::specs::Season::decode))]
 pub fn aways(season: &[u8], z: Season) -> &[u8]
     requires { Measured season.now z }
     ensures { result.now ≡ away_teams season.now }
@@ -77,6 +87,7 @@ pub fn aways(season: &[u8], z: Season) -> &[u8]
 }
 
 // The constraint with its head at place h and its body at place b.
+#[tactic(auto, unfolding(robinx::specs::Season::constraint_from))]
 fn constraint_from(s: &[u8], h: usize, b: usize) -> Constraint
     requires { (h + 8 ≤ length s.now) × (b + 16 ≤ length s.now) }
     ensures { result ≡ constraint_from s.now h b }
@@ -92,11 +103,12 @@ fn constraint_from(s: &[u8], h: usize, b: usize) -> Constraint
         w: s[h + 7],
         t1: word(s, b),
         t2: word(s, b + 4),
-        s: masks::of_number(long(s, b + 8)),
+        s: long(s, b + 8),
     }
 }
 
 // Constraint number c.
+#[tactic(auto, using(crate::proofs::Read::sizes_read), unfolding(robinx::specs::Season::decode))]
 pub(crate) fn constraint_at(season: &[u8], z: Season, c: usize) -> Constraint
     requires { (Measured season.now z) × (c < z.constraints) }
     ensures { result ≡ (decode season.now).constraint c }
