@@ -1,17 +1,13 @@
--- `penalty::largest` meets its contract. Before each turn it is the function of the first i numbers. Assumes nothing.
-use mathlib.Core.Path.{refl}
-use Rattle.robinx.specs.Penalty.{largest}
-use Rattle.penalties.proofs.Folds.{folded-none, folded_more, folded-done, largest-more}
+-- `penalties::largest` meets its contract. Assumes nothing.
+use Rattle.std.proofs.Common.{ℕ, ap, sym, ◌∙◌, Option}
+use Rattle.std.specs.Option.{unwrap_or}
+use Rattle.std.proofs.lemmas.Iterator.{YieldsList-from_slice}
+use Rattle.std.proofs.lemmas.Iterator.Consumers.{YieldsList-from_copied, max_from_yields_List}
+use Rattle.std.proofs.lemmas.Iterator.Adapters.{option_map_id}
+use Rattle.penalties.proofs.Folds.{largest-is}
 use Rattle.penalties.proofs.largest.Goals as goal
 
-pub loop-i-init : goal.loop-i-init
-unfolding largest
-loop-i-init c = folded-none refl
-
-pub loop-i-preserved : goal.loop-i-preserved
-loop-i-preserved c =
-    let l = c.loop-i in
-    folded_more l.invariant c.loop-i-test.true (rw (largest-more, ← l.invariant.value) c.larger-m.ensures)
-
 pub returns : goal.returns
-returns c = folded-done c.loop-i.invariant c.loop-i-test.false
+returns c =
+    let r = sym (option_map_id _) ∙ max_from_yields_List _ _ c.max.ensures.ran (YieldsList-from_copied (YieldsList-from_slice c.args.l.now cc)) in
+    c.unwrap_or.ensures ∙ ap (λ (o : Option ℕ). unwrap_or o 0) r ∙ largest-is c.args.l.now
