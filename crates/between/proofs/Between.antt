@@ -83,10 +83,10 @@ masks-more {f} {words} {i} m l h new = record {
       (rw (get_or-set_same words i m 0 l) new);
 }
 
-pub columns-between : (n : ℕ) (x : X) (d T1 T2 : ℕ) {words : List ℕ} → MasksOf (hosts n x d T1 T2) words n
-    → (k : ℕ) → k < most_slots → sum_to (λ i. bit (get_or words i 0) k) n ≡ games_between n x d T1 T2 k
+pub columns-between : (n : ℕ) (x : X) (d T1 T2 : ℕ) {words : List ℕ} → length words ≡ n → MasksOf (hosts n x d T1 T2) words n
+    → (k : ℕ) → k < most_slots → sum_to (λ i. bit (get_or words i 0) k) (length words) ≡ games_between n x d T1 T2 k
 unfolding games_between hosts
-columns-between n x d T1 T2 h k l = sum-ext n (λ i li. h.mask i li k l)
+columns-between n x d T1 T2 e h k l = rw e (sum-ext n (λ i li. h.mask i li k l))
 
 -- The constraint's own groups.
 module _ {n P : ℕ} {c : Constraint} {ts : Tables} {out : List ℕ} (r : Fillable n P c ts out) where

@@ -11,6 +11,7 @@ ghost use Rattle.robinx.specs.Deviations.{each, over, outside, dev_ca4, dev_ga1}
 ghost use Rattle.tables.specs.Tables.{x_of};
 ghost use Rattle.opponents.specs.Fillable.{Fillable, TiedGroup};
 ghost use Rattle.opponents.specs.Games.{MaskOf};
+ghost use Rattle.opponents.specs.Sides.{code_of};
 ghost use Rattle.between.specs.Between.{guests, hosts, MasksOf};
 
 use opponents::against;
@@ -65,13 +66,13 @@ impl Meetings {
         v
     }
 
-    // The masks of each team's games of `hosted`.
-    fn lay_hosted(self, n: usize, tables: &Tables, words: &mut [Slots; Season::TEAMS])
-        requires { (length words.old ≡ most_teams) × TiedGroup n self.t1 tables.now × (self.t2 < 2 ^ n) }
+    // The mask of each team's games of `hosted`, a word for each of the n teams.
+    fn lay_hosted(self, n: usize, tables: &Tables, words: &mut [Slots])
+        requires { (length words.old ≡ n) × TiedGroup n self.t1 tables.now × (self.t2 < 2 ^ n) }
         ensures { MasksOf (hosts n (x_of tables.now.meets) (code_of self.sides) self.t1 self.t2) words.new n }
     {
-        for i in 0..n {
-            words[i] = self.hosted(n, tables, i);
+        for (i, word) in words.iter_mut().enumerate() {
+            *word = self.hosted(n, tables, i);
         }
     }
 }
@@ -89,14 +90,7 @@ fn column(words: &[Slots], k: usize) -> u32
 }
 
 // One figure a slot of s, from the masks' columns.
-fn fill_columns(
-    kmin: u8,
-    kmax: u8,
-    s: Slots,
-    p: usize,
-    words: &[Slots],
-    out: &mut [u32],
-)
+fn fill_columns(kmin: u8, kmax: u8, s: Slots, p: usize, words: &[Slots], out: &mut [u32])
     requires { (length words.now ≤ most_teams) × (p ≤ most_slots) × (length out.old ≡ size p s) }
     ensures { out.new ≡ each p s (λ k. outside kmin kmax (sum_to (λ i. bit (get_or words.now i 0) k) (length words.now))) }
 {
@@ -123,9 +117,10 @@ pub fn fill_ca4(c: Constraint, z: Season, tables: &Tables, out: &mut [u32])
         out[0] = outside(c.kmin, c.kmax, games.games_in(c.s, z.teams, tables));
         return;
     }
-    let mut words = [masks::NONE; Season::TEAMS];
-    games.lay_hosted(z.teams, tables, &mut words);
-    fill_columns(c.kmin, c.kmax, c.s, z.slots, &words[..z.teams], out);
+    let mut all = [masks::NONE; Season::TEAMS];
+    let words = &mut all[..z.teams];
+    games.lay_hosted(z.teams, tables, words);
+    fill_columns(c.kmin, c.kmax, c.s, z.slots, words, out);
 }
 
 // GA1: CA4's games of the home side.
@@ -133,10 +128,10 @@ pub fn fill_ga1(c: Constraint, z: Season, tables: &Tables, out: &mut [u32])
     requires { Fillable z.teams z.slots c tables.now out.old × (c.kind ≡ 21) }
     ensures { out.new ≡ dev_ga1 z.teams z.slots c (x_of tables.now.meets) }
 {
-    let games = Meetings {
+    let hosted = Meetings {
         sides: Sides::Home,
         t1: c.t1,
         t2: c.t2,
     };
-    out[0] = outside(c.kmin, c.kmax, games.games_in(c.s, z.teams, tables));
+    out[0] = outside(c.kmin, c.kmax, hosted.games_in(c.s, z.teams, tables));
 }

@@ -1,4 +1,4 @@
--- `between::fill_ga1` meets its contract. Assumes nothing.
+-- The games at the venues of T1's teams. Assumes nothing.
 use mathlib.Core.Path.{◌≡◌, ap}
 use native.Mathlib.Omega.{arith}
 use lib.ListN.{length}
@@ -24,4 +24,4 @@ bounds-out-0 c = omega (arith, one_place (goal.at.bounds-out-0 c).Start)
 pub returns : goal.returns
 unfolding dev_ga1
 returns c =
-    one-figure c.requires.0 (x_of c.args.meets.now) home_side (one_place (goal.at.returns c).Start) c.games_in.ensures c.outside.ensures
+    one-figure c.requires.0 (x_of c.args.tables.now.meets) home_side (one_place (goal.at.returns c).Start) c.games_in.ensures c.outside.ensures
