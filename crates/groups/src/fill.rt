@@ -1,10 +1,9 @@
 // A figure for each member of a group, or for each pair of members, and the sum of the members' figures. They are generic in the figure, so that
 // each call of it is compiled in place.
 
-ghost use Rattle.std.specs.Prelude.{◌≡◌, true, ℕ, ◌*◌, ◌<◌, ◌≤◌, ◌^◌, length};
+ghost use Rattle.std.specs.Prelude.{◌≡◌, ℕ, ◌*◌, ◌<◌, ◌≤◌, ◌^◌, length};
 ghost use Rattle.std.specs.Int.Count.{ones};
 ghost use Rattle.robinx.specs.Season.{most_teams};
-ghost use Rattle.robinx.specs.Groups.{has};
 ghost use Rattle.groups.specs.Pairs.{pairs_in};
 ghost use Rattle.groups.specs.Figures.{OfMembers, OfPairs, EachFigure, EachPairFigure, TotalFigure};
 
@@ -21,7 +20,7 @@ pub fn fill_each<F: Fn(usize) -> u32>(group: u32, figure: F, out: &mut [u32])
     }
 }
 
-// The figure of each pair of members, lower one first.
+// The figure of each pair of members, lower one first. The places are counted by hand, since they run on from one row of pairs to the next.
 pub fn fill_pairs<F: Fn(usize, usize) -> u32>(group: u32, figure: F, out: &mut [u32])
     requires room { length out.old ≡ pairs_in group }
     requires callable { OfPairs most_teams group (F.pre figure) }
