@@ -1,4 +1,5 @@
-// The rules that a constraint keeps, by what its kind asks.
+// The rules that a constraint keeps, by what its kind asks. The tests are joined by `&`, without a branch between them: most constraints keep
+// them all.
 
 #![tactic(auto)]
 
@@ -15,7 +16,7 @@ use robinx::{Constraint, Field, Slots};
 fn in_range(low: u64, high: u64, v: u64) -> bool
     ensures { result ≡ fits low high v }
 {
-    (low <= v) & (v <= high)
+    (low..=high).contains(&v)
 }
 
 // What the field of a row asks of v.
@@ -25,7 +26,7 @@ fn asks(f: Field, kmax: u8, v: u64) -> bool
     match f {
         Field::Zero => v == 0,
         Field::Any => true,
-        Field::UpToKmax => v <= kmax as u64,
+        Field::UpToKmax => v <= u64::from(kmax),
         Field::Some => 1 <= v,
     }
 }
@@ -37,7 +38,7 @@ fn holds(f: Field, kmax: u8, high: u64, v: u64) -> bool
     asks(f, kmax, v) & (v <= high)
 }
 
-// What the field of a row asks of S.
+// What the field of a row asks of S. It is a function of its own, since only the crate masks knows that a mask is a number.
 fn slots_ask(f: Field, kmax: u8, s: Slots) -> bool
     ensures { result ≡ asked f kmax s }
 {
@@ -61,51 +62,52 @@ fn slots_hold(f: Field, kmax: u8, p: usize, s: Slots) -> bool
 fn function_fits(squares: bool, f: u8) -> bool
     ensures { result ≡ function_fits squares f }
 {
-    ((1 <= f) & (f <= 5)) & (squares | !((2 <= f) & (f <= 3)))
+    matches!(f, 1..=5) & (squares | !matches!(f, 2..=3))
 }
 
+#[tactic(auto, unfolding(crate::specs::CountedBits::head_keeps))]
 fn head_keeps(first: u8, last: u8, squares: bool, c: Constraint) -> bool
     ensures { result ≡ head_keeps first last squares c }
 {
-    in_range(first as u64, last as u64, c.mode as u64)
+    in_range(u64::from(first), u64::from(last), u64::from(c.mode))
         & (c.hard <= 1)
         & function_fits(squares, c.function)
-        & in_range(1, 255, c.weight as u64)
+        & in_range(1, 255, u64::from(c.weight))
 }
 
+#[tactic(auto, unfolding(crate::specs::CountedBits::counts_keep))]
 fn counts_keep(kmin: Field, kmax: Field, w: Field, c: Constraint) -> bool
     ensures { result ≡ counts_keep kmin kmax w c }
 {
-    holds(kmin, c.kmax, 255, c.kmin as u64)
-        & holds(kmax, c.kmax, 255, c.kmax as u64)
-        & holds(w, c.kmax, 255, c.w as u64)
+    holds(kmin, c.kmax, 255, u64::from(c.kmin))
+        & holds(kmax, c.kmax, 255, u64::from(c.kmax))
+        & holds(w, c.kmax, 255, u64::from(c.w))
 }
 
+#[tactic(auto, unfolding(crate::specs::CountedBits::groups_keep))]
 fn groups_keep(t2: Field, s: Field, c: Constraint, n: usize, p: usize) -> bool
     requires { (1 ≤ n) × (n ≤ most_teams) × (1 ≤ p) × (p ≤ most_slots) }
     ensures { result ≡ groups_keep t2 s n p c }
 {
-    let teams = groups::everyone(n) as u64;
-    in_range(1, teams, c.t1 as u64)
-        & holds(t2, c.kmax, teams, c.t2 as u64)
+    let teams = u64::from(groups::everyone(n));
+    in_range(1, teams, u64::from(c.t1))
+        & holds(t2, c.kmax, teams, u64::from(c.t2))
         & slots_hold(s, c.kmax, p, c.s)
 }
 
 // One of the groups has more than one team, where the kind asks it.
+#[tactic(auto, unfolding(crate::specs::CountedBits::several_keep))]
 fn several_keep(several: bool, t1: u32, t2: u32) -> bool
     ensures { result ≡ several_keep several t1 t2 }
 {
-    if several {
-        (2 <= size_of(t1)) | (2 <= size_of(t2))
-    } else {
-        true
-    }
+    !several || 2 <= size_of(t1) || 2 <= size_of(t2)
 }
 
+#[tactic(auto, unfolding(crate::specs::CountedBits::sizes_keep))]
 fn sizes_keep(fewest: u8, several: bool, c: Constraint) -> bool
     ensures { result ≡ sizes_keep fewest several c }
 {
-    (fewest as usize <= size_of(c.t1)) & several_keep(several, c.t1, c.t2)
+    (usize::from(fewest) <= size_of(c.t1)) & several_keep(several, c.t1, c.t2)
 }
 
 // Whether a constraint keeps every rule of a kind that asks this. The row comes as single values, so that each call is compiled with its

@@ -1,7 +1,7 @@
--- A move touches a constraint where its teams are such as the row of the kind asks, and one of its slots is. Assumes nothing.
+-- A move touches a constraint where its teams are such as the row of the kind asks, and one of its slots is.
 use mathlib.Core.Path.{◌≡◌, refl, sym, ap, ap₂, ◌∙◌}
 use mathlib.Core.Bool.{Bool, true, false, ◌&&◌, ◌||◌, not, and-false}
-use Prim.Native.Nat.{ℕ, zero, suc, ◌-◌}
+use Prim.Native.Nat.{ℕ, zero, suc}
 use native.Mathlib.Omega.{arith}
 use lib.Dec.{eqb}
 use Rattle.robinx.specs.Season.{slots_of}
@@ -46,7 +46,7 @@ pub not-touched : {teams : ℕ} (c : Constraint) (v : Move) {f : Form} → f ≡
 unfolding by_row
 not-touched c v {f} e none named = sym (by_row_lem c v e) ∙ rw (none c.t2 v.home v.away named.home named.away) (and-false (not (eqb v.from v.to)))
 
--- so do all rows of today
+-- a game that a row asks for has a team of T1, in all rows of today
 pub outside : (asked : TouchTeams) → AsksForT1 asked
 unfolding teams_touch
 outside Nobody T1 T2 i j h g = refl
@@ -54,16 +54,6 @@ outside OneInT1 T1 T2 i j h g = rw (h, g)
 outside Across T1 T2 i j h g = rw (h, g)
 outside HomeAndAway T1 T2 i j h g = rw h
 outside BothInT1 T1 T2 i j h g = rw h
-
--- a slot of the sheet that is none, and one that is
-pub at_none : (p : ℕ → Bool) (b : ℕ) → b ≡ 0 → at_slot p b ≡ false
-unfolding at_slot
-at_none p b e = rw e
-
-pub at_some : (p : ℕ → Bool) (b : ℕ) → (b ≡ 0 → ⊥) → at_slot p b ≡ p (b - 1)
-unfolding at_slot
-at_some p zero h = absurd (h refl)
-at_some p (suc k) h = ap p (omega arith)
 
 -- the move that touches nothing
 pub none-possible : {v : Move} → v ≡ no_move → Possible v

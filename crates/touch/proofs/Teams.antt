@@ -1,4 +1,4 @@
--- The teams of two moves as a group. A constraint whose T1 has no team of a move is not touched by it. Assumes nothing.
+-- The teams of two moves as a group. A constraint whose T1 has no team of a move is not touched by it.
 use mathlib.Core.Path.{◌≡◌, refl, sym, ◌∙◌}
 use mathlib.Core.Bool.{true, false, and-true, or-true}
 use Prim.Native.Nat.{ℕ, ◌^◌}
@@ -25,27 +25,15 @@ module _ (m n k : ℕ) where
   apart : bit_and m n ≡ 0 → has n k ≡ true → has m k ≡ false
   apart e h = sym (rw (e, none-bit, h, and-true) at (and-has m n k))
 
--- the group of a move, and of two
-abbrev pair : Move → ℕ
-pair v = bit_or (2 ^ v.home) (2 ^ v.away)
+-- the group of a move, and a union with it
+pub of_pair : (v : Move) → Named (bit_or (2 ^ v.home) (2 ^ v.away)) v
+of_pair v = record { home = or_left _ _ _ (of_one v.home); away = or_right _ _ _ (of_one v.away) }
 
-of_pair : (v : Move) → Named (pair v) v
-of_pair v = record {
-  home = or_left (2 ^ v.home) (2 ^ v.away) v.home (of_one v.home);
-  away = or_right (2 ^ v.home) (2 ^ v.away) v.away (of_one v.away);
-}
+pub named_left : (m n : ℕ) {v : Move} → Named m v → Named (bit_or m n) v
+named_left m n p = record { home = or_left m n _ p.home; away = or_left m n _ p.away }
 
-pub of-both : (v w : Move) → Named (bit_or (pair v) (pair w)) v × Named (bit_or (pair v) (pair w)) w
-of-both v w = (
-  record {
-    home = or_left (pair v) (pair w) v.home (of_pair v).home;
-    away = or_left (pair v) (pair w) v.away (of_pair v).away;
-  },
-  record {
-    home = or_right (pair v) (pair w) w.home (of_pair w).home;
-    away = or_right (pair v) (pair w) w.away (of_pair w).away;
-  },
-)
+pub named_right : (m n : ℕ) {v : Move} → Named n v → Named (bit_or m n) v
+named_right m n p = record { home = or_right m n _ p.home; away = or_right m n _ p.away }
 
 -- a group that has none of T1
 pub passed_over : (asked : TouchTeams) (T1 teams : ℕ) → AsksForT1 asked → bit_and T1 teams ≡ 0 → PassedOver asked T1 teams

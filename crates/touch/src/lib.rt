@@ -12,7 +12,7 @@ use groups::is_in;
 use robinx::{Constraint, Form, Slots, TouchSlots, TouchTeams};
 
 // Game (home, away) goes from one slot of the sheet to another; 0 is none.
-#[derive(Clone, Copy)]
+#[derive(Clone, Copy, Debug, Default, PartialEq, Eq)]
 pub struct Move {
     pub home: u8,
     pub away: u8,
@@ -24,12 +24,15 @@ pub struct Move {
 pub fn no_move() -> Move
     ensures { result ≡ no_move }
 {
-    Move {
-        home: 0,
-        away: 0,
-        from: 0,
-        to: 0,
-    }
+    Move::default()
+}
+
+// The group of a move's teams.
+fn both_teams(v: Move) -> u32
+    requires { Possible v }
+    ensures { Named result v }
+{
+    groups::one(usize::from(v.home)) | groups::one(usize::from(v.away))
 }
 
 // The group of the teams of two moves.
@@ -37,12 +40,11 @@ pub fn teams_of(first: Move, second: Move) -> u32
     requires { Possible first × Possible second }
     ensures { Named result first × Named result second }
 {
-    let one = groups::one(first.home as usize) | groups::one(first.away as usize);
-    let other = groups::one(second.home as usize) | groups::one(second.away as usize);
-    one | other
+    both_teams(first) | both_teams(second)
 }
 
-// A game of i at home against j is such as the row asks.
+// A game of i at home against j is such as the row asks. Both teams are looked up, without a branch between them.
+#[tactic(auto, unfolding(robinx::specs::Touch::teams_touch))]
 fn teams_touch(asked: TouchTeams, t1: u32, t2: u32, i: usize, j: usize) -> bool
     requires { (i < most_teams) × (j < most_teams) }
     ensures { result ≡ teams_touch asked t1 t2 i j }
@@ -56,7 +58,7 @@ fn teams_touch(asked: TouchTeams, t1: u32, t2: u32, i: usize, j: usize) -> bool
     }
 }
 
-// Every game that the row asks for has a team of T1.
+// Every game that the row asks for has a team of T1. This is so in all rows; each is named here, so that a new one has to be judged.
 fn asks_for_t1(asked: TouchTeams) -> bool
     ensures { result ≡ true → AsksForT1 asked }
 {
@@ -73,42 +75,40 @@ fn asks_for_t1(asked: TouchTeams) -> bool
 pub fn passed_over(f: Form, t1: u32, teams: u32) -> bool
     ensures { result ≡ true → PassedOver f.teams t1 teams }
 {
-    if t1 & teams == 0 {
-        let asked = f.teams;
-        return asks_for_t1(asked);
-    }
-    false
+    t1 & teams == 0 && asks_for_t1(f.teams)
 }
 
 // Slot b of the sheet is such as the row asks.
+#[tactic(auto, unfolding(robinx::specs::Touch::slot_touches, crate::specs::Touched::at_slot))]
 fn slot_touches(asked: TouchSlots, s: Slots, b: u8) -> bool
     requires { b ≤ most_slots }
     ensures { result ≡ at_slot (slot_touches asked s) b }
 {
-    if b == 0 {
+    let Some(k) = b.checked_sub(1) else {
         return false;
-    }
+    };
     match asked {
-        TouchSlots::InS => masks::is_in(s, (b - 1) as u64),
-        TouchSlots::UpToLastOfS => masks::last_reach(s, (b - 1) as u64),
+        TouchSlots::InS => masks::is_in(s, u64::from(k)),
+        TouchSlots::UpToLastOfS => masks::last_reach(s, u64::from(k)),
         TouchSlots::AnySlot => true,
     }
 }
 
 // A move touches a constraint of a kind with this row.
+#[tactic(auto, unfolding(crate::specs::Touched::by_row))]
 fn touches(f: Form, c: Constraint, v: Move) -> bool
     requires { Possible v }
     ensures { result ≡ by_row f c v }
 {
-    if v.from == v.to {
-        return false;
-    }
-    let teams = f.teams;
-    let slots = f.slots;
-    if teams_touch(teams, c.t1, c.t2, v.home as usize, v.away as usize) {
-        return slot_touches(slots, c.s, v.from) | slot_touches(slots, c.s, v.to);
-    }
-    false
+    v.from != v.to
+        && teams_touch(
+            f.teams,
+            c.t1,
+            c.t2,
+            usize::from(v.home),
+            usize::from(v.away),
+        )
+        && (slot_touches(f.slots, c.s, v.from) || slot_touches(f.slots, c.s, v.to))
 }
 
 // An exchange touches what either of its moves touches.
@@ -116,8 +116,5 @@ pub fn either_touches(f: Form, c: Constraint, first: Move, second: Move) -> bool
     requires { Possible first × Possible second }
     ensures { result ≡ by_row f c first || by_row f c second }
 {
-    if touches(f, c, first) {
-        return true;
-    }
-    touches(f, c, second)
+    touches(f, c, first) || touches(f, c, second)
 }

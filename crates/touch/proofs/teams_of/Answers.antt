@@ -1,9 +1,6 @@
--- Each team has its group in the union.
-use Rattle.touch.proofs.Teams.{of-both}
+-- A union names what either group names.
+use Rattle.touch.proofs.Teams.{named_left, named_right}
 use Rattle.touch.proofs.teams_of.Goals as goal
 
 pub returns : goal.returns
-returns c =
-    let b = c in
-    rw (b.one.ensures, b.one-2.ensures, c.one-3.ensures, c.one-4.ensures)
-    (let a = b.args in of-both a.first a.second)
+returns c = (named_left _ _ c.both_teams.ensures, named_right _ _ c.both_teams-2.ensures)
