@@ -8,6 +8,7 @@ ghost use Rattle.robinx.specs.Refusals.{sentence, sentence3, sentence4, sentence
 ghost use Rattle.reader.specs.Sizes.{sizes_of, Measured, out_of_range};
 ghost use Rattle.season.specs.Examination.{Examination};
 
+use reader::cursor::Cursor;
 use robinx::{Refusal, Season};
 
 // What the examination of an accepted season finds: its sizes and the number of deviations.
@@ -52,8 +53,7 @@ fn examine_constraints(season: &[u8], z: Season) -> Result<Examined, Refusal>
     ensures { Examination (sentence 5 (sentence5 (decode season.now)) ∷ []) season.now result }
 {
     let mut entries = 0;
-    for k in 0..z.constraints {
-        let c = reader::cursor::constraint_of(season, z, k);
+    for c in Cursor::new(season, z) {
         if !kind_rules::obeys(c, z.teams, z.slots) {
             return Err(Refusal::BadConstraint);
         }
