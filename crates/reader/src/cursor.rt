@@ -1,6 +1,6 @@
 // The one reader: it holds the season and its place among the constraints, and gives them one after the other. It is thin: the work is left
 // to `constraint_at`. A caller that asks for one constraint uses `constraint_of`, whose parameters are plain.
-ghost use Rattle.std.specs.Prelude.{◌≡◌, ◌+◌, ◌-◌, ◌<◌, ◌≤◌};
+ghost use Rattle.std.specs.Prelude.{◌≡◌, ◌-◌, ◌<◌, ◌≤◌};
 ghost use Rattle.std.specs.Iterator.{at_most};
 ghost use Rattle.robinx.specs.Season.{decode};
 ghost use Rattle.reader.specs.Sizes.{Measured};

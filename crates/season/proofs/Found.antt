@@ -11,11 +11,16 @@ use Rattle.robinx.specs.declared.Season.{Season}
 use Rattle.robinx.proofs.Limits.{Sound, sound, decode-home, decode-away}
 use Rattle.robinx.proofs.Passed.{none_true}
 use Rattle.reader.specs.Sizes.{sizes_of, Measured}
-use Rattle.reader.proofs.Read.{length-asked}
+use Rattle.reader.proofs.Read.{length-asked, sizes-tested, in-range, right-length, as_many, teams-read}
+use Rattle.games.proofs.Meetings.{games-alone}
 
 pub measured : (s : List ℕ) {z : Season} → z ≡ sizes_of s → sentence3 s ≡ false → Measured s z
 unfolding sentence3
 measured s e h = record { sizes = e; whole = eqb-true (length s) (season_length s) (not-false _ h) ∙ length-asked s e }
+
+pub ruleset examined = (measured, sizes-tested)
+
+pub ruleset meetings = (in-range, right-length, as_many, teams-read, games-alone)
 
 -- What an accepted season gives its callers; `Sound` has the ranges of sizes, teams and constraints.
 pub record SoundSeason (s : List ℕ) : Type 0 where

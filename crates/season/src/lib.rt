@@ -2,7 +2,7 @@
 
 #![tactic(auto)]
 
-ghost use Rattle.std.specs.Prelude.{◌≡◌, false, ◌∷◌, [], ◌+◌, ◌*◌, ◌<◌, ◌^◌};
+ghost use Rattle.std.specs.Prelude.{◌≡◌, false, ◌∷◌, []};
 ghost use Rattle.robinx.specs.Season.{decode};
 ghost use Rattle.robinx.specs.Refusals.{sentence, sentence3, sentence4, sentence5, of_season};
 ghost use Rattle.reader.specs.Sizes.{sizes_of, Measured, out_of_range};
@@ -30,6 +30,7 @@ pub fn sizes_bad(z: Season) -> bool
 }
 
 // Sentence 3.
+#[tactic(auto, using(reader::proofs::Read::ranges, reader::proofs::Read::asked), unfolding(robinx::specs::Refusals::sentence3))]
 fn length_bad(season: &[u8], z: Season) -> bool
     requires { (z ≡ sizes_of season.now) × (out_of_range z ≡ false) }
     ensures { result ≡ sentence3 season.now }
@@ -38,6 +39,7 @@ fn length_bad(season: &[u8], z: Season) -> bool
 }
 
 // Sentence 4.
+#[tactic(auto, using(crate::proofs::Found::meetings))]
 fn meetings_bad(season: &[u8], z: Season) -> bool
     requires { (Measured season.now z) × (out_of_range z ≡ false) }
     ensures { result ≡ sentence4 (decode season.now) }
@@ -63,6 +65,7 @@ fn examine_constraints(season: &[u8], z: Season) -> Result<Examined, Refusal>
 }
 
 // Any bytes, by sentences 1 to 5.
+#[tactic(auto, using(crate::proofs::Found::examined), unfolding(robinx::specs::Refusals::sentence1, robinx::specs::Refusals::first_true))]
 pub fn examine(season: &[u8]) -> Result<Examined, Refusal>
     ensures { Examination (of_season season.now) season.now result }
 {
