@@ -34,6 +34,8 @@ module _ (s : List ℕ) {z : Season} (e : z ≡ sizes_of s) where
   unfolding season_length decode
   length-asked = rw (games-read, constraints-read)
 
+  pub ruleset asked = (length-asked)
+
   pub sizes-tested : sentence2 (decode s) ≡ out_of_range z
   unfolding sentence2 out_of_range
   sizes-tested = rw (teams-read, slots_read, games-read, constraints-read)
@@ -52,6 +54,8 @@ unfolding out_of_range
 in-range z e =
     let sizes = sizes-in z.teams z.slots z.games z.constraints e in
     record { teams-least = sizes.0; teams = sizes.1; slots-least = sizes.2; slots = sizes.3; games = sizes.4; constraints = sizes.5 }
+
+pub ruleset ranges = (in-range)
 
 module _ (s : List ℕ) where
   pub right-length : {z : Season} → Measured s z → sentence3 s ≡ false

@@ -3,8 +3,9 @@
 #![tactic(auto)]
 
 pub mod cursor; // cursor.rt: one reader that moves over the constraints
+pub mod view; // view.rt: a season with its sizes
 
-ghost use Rattle.std.specs.Prelude.{◌≡◌, ℕ, ◌+◌, ◌*◌, ◌<◌, ◌≤◌, length, slice_index};
+ghost use Rattle.std.specs.Prelude.{◌≡◌, ℕ, ◌+◌, ◌<◌, ◌≤◌, length, slice_index};
 ghost use Rattle.robinx.specs.Season.{number, decode, home_teams, away_teams, constraint_from};
 ghost use Rattle.reader.specs.Sizes.{sizes_of, Measured};
 

@@ -2,12 +2,13 @@
 
 #![tactic(auto)]
 
-ghost use Rattle.std.specs.Prelude.{◌≡◌, false, ◌∷◌, [], ◌+◌, ◌*◌, ◌<◌, ◌^◌};
+ghost use Rattle.std.specs.Prelude.{◌≡◌, false, ◌∷◌, []};
 ghost use Rattle.robinx.specs.Season.{decode};
 ghost use Rattle.robinx.specs.Refusals.{sentence, sentence3, sentence4, sentence5, of_season};
-ghost use Rattle.reader.specs.Sizes.{sizes_of, Measured, out_of_range};
+ghost use Rattle.reader.specs.Sizes.{sizes_of, out_of_range};
 ghost use Rattle.season.specs.Examination.{Examination};
 
+use reader::view::SeasonView;
 use robinx::{Refusal, Season};
 
 // What the examination of an accepted season finds: its sizes and the number of deviations.
@@ -29,6 +30,7 @@ pub fn sizes_bad(z: Season) -> bool
 }
 
 // Sentence 3.
+#[tactic(auto, using(reader::proofs::Read::ranges, reader::proofs::Read::asked), unfolding(robinx::specs::Refusals::sentence3))]
 fn length_bad(season: &[u8], z: Season) -> bool
     requires { (z ≡ sizes_of season.now) × (out_of_range z ≡ false) }
     ensures { result ≡ sentence3 season.now }
@@ -37,32 +39,32 @@ fn length_bad(season: &[u8], z: Season) -> bool
 }
 
 // Sentence 4.
-fn meetings_bad(season: &[u8], z: Season) -> bool
-    requires { (Measured season.now z) × (out_of_range z ≡ false) }
-    ensures { result ≡ sentence4 (decode season.now) }
+#[tactic(auto, using(crate::proofs::Found::meetings))]
+fn meetings_bad(season: SeasonView) -> bool
+    requires { out_of_range season.sizes ≡ false }
+    ensures { result ≡ sentence4 (decode season.entry.bytes.now) }
 {
-    let homes = reader::homes(season, z);
-    let aways = reader::aways(season, z);
-    games::games_bad(homes, aways, z.teams)
+    games::games_bad(season.homes(), season.aways(), season.sizes.teams)
 }
 
 // Sentence 5 and the number of deviations, up to a constraint that breaks a rule.
-fn examine_constraints(season: &[u8], z: Season) -> Result<Examined, Refusal>
-    requires { (Measured season.now z) × (out_of_range z ≡ false) }
-    ensures { Examination (sentence 5 (sentence5 (decode season.now)) ∷ []) season.now result }
+fn examine_constraints(season: SeasonView) -> Result<Examined, Refusal>
+    requires { out_of_range season.sizes ≡ false }
+    ensures { Examination (sentence 5 (sentence5 (decode season.entry.bytes.now)) ∷ []) season.entry.bytes.now result }
 {
+    let sizes = season.sizes;
     let mut entries = 0;
-    for k in 0..z.constraints {
-        let c = reader::cursor::constraint_of(season, z, k);
-        if !kind_rules::obeys(c, z.teams, z.slots) {
+    for c in season.constraints() {
+        if !kind_rules::obeys(c, sizes.teams, sizes.slots) {
             return Err(Refusal::BadConstraint);
         }
         entries += kinds::entries_of(c);
     }
-    Ok(Examined { sizes: z, entries })
+    Ok(Examined { sizes, entries })
 }
 
 // Any bytes, by sentences 1 to 5.
+#[tactic(auto, using(crate::proofs::Found::examined), unfolding(robinx::specs::Refusals::sentence1, robinx::specs::Refusals::first_true))]
 pub fn examine(season: &[u8]) -> Result<Examined, Refusal>
     ensures { Examination (of_season season.now) season.now result }
 {
@@ -76,8 +78,12 @@ pub fn examine(season: &[u8]) -> Result<Examined, Refusal>
     if length_bad(season, z) {
         return Err(Refusal::SeasonLength);
     }
-    if meetings_bad(season, z) {
+    let view = SeasonView {
+        bytes: season,
+        sizes: z,
+    };
+    if meetings_bad(view) {
         return Err(Refusal::BadGame);
     }
-    examine_constraints(season, z)
+    examine_constraints(view)
 }

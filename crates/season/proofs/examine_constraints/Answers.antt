@@ -1,28 +1,42 @@
 -- A turn finds a breach, or keeps one more constraint.
+use Prim.Native.Nat.{◌+◌}
 use native.Mathlib.Omega.{arith}
 use Rattle.reader.proofs.Read.{in-range}
 use Rattle.robinx.specs.Season.{decode}
-use Rattle.season.proofs.Pass.{kept-none, kept-more, few, broken, kept-all}
+use Rattle.season.proofs.Pass.{Kept, kept-none, kept-more, few, broken, kept-all}
 use Rattle.season.proofs.examine_constraints.Goals as goal
+use Rattle.season.proofs.examine_constraints.Goals.{After-entries_of-entries}
 
-pub loop-k-init : goal.loop-k-init
-loop-k-init c = kept-none (decode c.args.season.now)
+-- the constraint that was read is passed
+passed : (c : After-entries_of-entries) → Kept (decode c.args.season.bytes.now) (c.loop-c.c-iterator.at + 1) (c.loop-c.entries + c.entries_of-entries.result)
+passed c =
+    let here = rw c.loop-c.invariant.same at c.in-Some.ensures.steps.constraint in
+    kept-more c.args.season.bytes.now c.args.season.sizes c.args.season.measured c.loop-c.invariant.kept here c.if-not-obeys.ensures c.entries_of-entries.ensures
+
+pub loop-c-init : goal.loop-c-init
+loop-c-init c =
+    let e = c.into_iter-c-iterator.ensures.into_iter_gives in
+    let new = c.constraints-c-items.ensures in
+    record { same = rw (e, new.0); sizes = rw (e, new.1); kept = rw (e, new.2) (kept-none (decode c.args.season.bytes.now)) }
 
 pub obeys-requires : goal.obeys-requires
-obeys-requires c = omega (arith, in-range c.args.z c.requires.1)
+obeys-requires c = omega (arith, in-range c.args.season.sizes c.requires)
 
 pub returns-then-not-obeys : goal.returns-then-not-obeys
-returns-then-not-obeys c = broken c.args.season.now c.args.z c.requires.0 c.loop-k.k c.loop-k-test.true c.constraint_of-c.ensures c.if-not-obeys.ensures
-
-pub loop-k-preserved : goal.loop-k-preserved
-loop-k-preserved c =
-    kept-more c.args.season.now c.args.z c.requires.0 c.loop-k.invariant c.constraint_of-c.ensures c.if-not-obeys.ensures c.entries_of-entries.ensures
+returns-then-not-obeys c =
+    broken c.args.season.bytes.now c.args.season.sizes c.args.season.measured c.loop-c.c-iterator.at (rw c.loop-c.invariant.sizes at c.in-Some.ensures.steps.below)
+    (rw c.loop-c.invariant.same at c.in-Some.ensures.steps.constraint) c.if-not-obeys.ensures
 
 pub overflow_add-entries : goal.overflow_add-entries
 overflow_add-entries c =
-    let range = in-range c.args.z c.requires.1 in
-    let next = kept-more c.args.season.now c.args.z c.requires.0 c.loop-k.invariant c.constraint_of-c.ensures c.if-not-obeys.ensures c.entries_of-entries.ensures in
-    record { fits = omega (arith, few c.args.season.now c.args.z c.requires.0 range next, range.constraints, c.loop-k-test.true) }
+    let range = in-range c.args.season.sizes c.requires in
+    record { fits = omega (arith, few c.args.season.bytes.now c.args.season.sizes c.args.season.measured range (passed c), range.constraints, rw c.loop-c.invariant.sizes at c.in-Some.ensures.steps.below) }
+
+pub loop-c-preserved : goal.loop-c-preserved
+loop-c-preserved c =
+    let step = c.in-Some.ensures.steps in
+    let old = c.loop-c.invariant in
+    record { same = rw step.season old.same; sizes = rw step.sizes old.sizes; kept = rw step.at (passed c) }
 
 pub returns : goal.returns
-returns c = kept-all c.args.season.now c.args.z c.requires.0 (omega arith) c.loop-k.invariant
+returns c = kept-all c.args.season.bytes.now c.args.season.sizes c.args.season.measured (rw c.loop-c.invariant.sizes at c.in-None.ensures.steps) c.loop-c.invariant.kept

@@ -1,7 +1,12 @@
--- The constraints before number k keep the rules, and their deviations are counted.
+-- The constraints that the cursor passed keep the rules, and their deviations are counted.
+use Rattle.std.proofs.Common.{◌≡◌}
 use Rattle.robinx.specs.Season.{decode}
 use Rattle.season.proofs.Pass.{Kept}
 use Rattle.season.proofs.examine_constraints.Given as goal
 
-abbrev pub invariant-loop-k : goal.invariant-loop-k
-invariant-loop-k l = Kept (decode l.season) l.k l.entries
+abbrev pub invariant-loop-c : goal.invariant-loop-c
+invariant-loop-c l = record {
+  same : l.c-iterator.season.now ≡ l.season.bytes.now;
+  sizes : l.c-iterator.sizes ≡ l.sizes;
+  kept : Kept (decode l.season.bytes.now) l.c-iterator.at l.entries;
+}

@@ -1,0 +1,45 @@
+// A season whose length is the one that its sizes ask: its parts can be read.
+ghost use Rattle.std.specs.Prelude.{◌≡◌, ◌<◌};
+ghost use Rattle.robinx.specs.Season.{decode, home_teams, away_teams};
+ghost use Rattle.reader.specs.Sizes.{Measured};
+
+use super::cursor::Cursor;
+use robinx::{Constraint, Season};
+
+#[derive(Clone, Copy)]
+pub struct SeasonView<'a> {
+    pub bytes: &'a [u8],
+    pub sizes: Season,
+    ghost measured: { Measured bytes.now sizes },
+}
+
+impl<'a> SeasonView<'a> {
+    // The home team of each game.
+    pub fn homes(self) -> &'a [u8]
+        ensures { result.now ≡ home_teams self.entry.bytes.now }
+    {
+        super::homes(self.bytes, self.sizes)
+    }
+
+    // The away team of each game.
+    pub fn aways(self) -> &'a [u8]
+        ensures { result.now ≡ away_teams self.entry.bytes.now }
+    {
+        super::aways(self.bytes, self.sizes)
+    }
+
+    // Constraint number k.
+    pub fn constraint(self, k: usize) -> Constraint
+        requires { k < self.sizes.constraints }
+        ensures { result ≡ (decode self.entry.bytes.now).constraint k }
+    {
+        super::constraint_at(self.bytes, self.sizes, k)
+    }
+
+    // All constraints.
+    pub fn constraints(self) -> Cursor<'a>
+        ensures { (result.season ≡ self.entry.bytes) × (result.sizes ≡ self.entry.sizes) × (result.at ≡ 0) }
+    {
+        Cursor::new(self.bytes, self.sizes)
+    }
+}
