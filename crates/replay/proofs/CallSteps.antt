@@ -1,6 +1,6 @@
 -- The calls made so far.
-use mathlib.Core.Path.{◌≡◌, refl, sym, ap, ◌∙◌}
-use mathlib.Core.List.{List, [], ◌∷◌, ◌++◌, append_assoc, append-nil}
+use mathlib.Core.Path.{◌≡◌, sym, ap, ◌∙◌}
+use mathlib.Core.List.{List, [], ◌∷◌, ◌++◌}
 use Prim.Native.Nat.{ℕ, ◌+◌, ◌%◌, ◌^◌}
 use lib.IntN.{ℤ}
 use Rattle.robinx.specs.Calls.{Buffers, Outcome, outcome, Call, open_call, call_on}
@@ -40,24 +40,3 @@ module _ (season : List ℕ) (b : Buffers) where
         infeasibility = sum_more (λ r. r.infeasibility) made k p.infeasibility (outcome r left') h.infeasibility l;
         objective = sum_more (λ r. r.objective) made k p.objective (outcome r left') h.objective l;
       }
-
--- some calls of the list are made, and the rest are left
-pub record Made (season : List ℕ) (b : Buffers) (all rest : List Call) (p : Played) (left : Buffers) : Type 0 where
-  pub made : List Call
-  pub split : made ++ rest ≡ all
-  pub plays : Replays season b made p left
-
-module _ {season : List ℕ} {b : Buffers} {all : List Call} where
-  pub none_made : {p : Played} {left : Buffers} → Replays season b [] p left → Made season b all all p left
-  none_made h = record { made = []; split = refl; plays = h }
-
-  pub one-made : {rest : List Call} {p p' : Played} {left left' : Buffers} {r : Reply} {k : Call} → Made season b all (k ∷ rest) p left
-      → outcome r left' ≡ call_on season left k → p' ≡ with_reply p r → Made season b all rest p' left'
-  one-made {rest} {k = k} h e is = rw is (record {
-    made = h.made ++ k ∷ [];
-    split = append_assoc h.made (k ∷ []) rest ∙ h.split;
-    plays = plays-next season b k h.plays e;
-  })
-
-  pub all_made : {p : Played} {left : Buffers} → Made season b all [] p left → Replays season b all p left
-  all_made {p} {left} h = rw (← h.split, append-nil) h.plays

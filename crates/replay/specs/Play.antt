@@ -6,13 +6,24 @@ unfoldable pub use Rattle.robinx.specs.Demands.{last, added}
 pub use Rattle.robinx.specs.Demands.{Fresh}
 use Rattle.robinx.specs.PlainSheet.{plain_after}
 use Rattle.robinx.specs.declared.Reply.{Reply}
+use Rattle.replay.specs.declared.Call.{Call as ProgramCall}
+use Rattle.replay.specs.declared.Call.TheVariants.{Set, Exchange}
 use Rattle.played.specs.declared.Played.{Played}
 use Rattle.played.specs.Word.{word}
+
+-- what a call of the program means
+abbrev pub meant_by : ProgramCall → Call
+meant_by (Set game slot) = set_slot game slot
+meant_by (Exchange game other) = exchange game other
 
 -- kind 0 is set, any other is exchange
 abbrev pub call_of : ℕ → ℕ → ℕ → Call
 call_of zero first second = set_slot first second
 call_of (suc kind) first second = exchange first second
+
+-- .. of the three words of a call
+abbrev pub call_in : List ℕ → Call
+call_in words = call_of (get_or words 0 0) (get_or words 1 0) (get_or words 2 0)
 
 -- three words a call; one or two words at the end are no call
 unfoldable pub calls_of : List ℕ → List Call

@@ -4,31 +4,55 @@
 
 ghost use Rattle.std.specs.Prelude.{◌≡◌};
 ghost use Rattle.robinx.specs.Calls.{buffers, outcome, call_on};
-ghost use Rattle.replay.specs.Play.{call_of, calls_of, Replays};
+ghost use Rattle.replay.specs.Play.{meant_by, call_in, calls_of, Replays};
 
 use played::Played;
 use robinx::Reply;
 
-// One call of a list: kind 0 is set, any other is exchange.
-fn make(
-    season: &[u8],
-    sheet: &mut [u8],
-    ledger: &mut [u32],
-    tally: &mut [u64],
-    kind: u64,
-    first: u64,
-    second: u64,
-) -> Reply
-    ensures { outcome result (buffers sheet.new ledger.new tally.new)
-        ≡ call_on season.now (buffers sheet.old ledger.old tally.old) (call_of kind first second) }
-{
-    if kind == 0 {
-        return checker::season_set(season, sheet, ledger, tally, first, second);
-    }
-    checker::season_exchange(season, sheet, ledger, tally, first, second)
+// A call: a game is put into a slot, or two games change places.
+#[derive(Clone, Copy, Debug, PartialEq, Eq)]
+pub enum Call {
+    Set { game: u64, slot: u64 },
+    Exchange { game: u64, other: u64 },
 }
 
-// Opens, and makes each call of the list, three words a call, whatever the replies are.
+impl From<[u64; 3]> for Call {
+    ghost from_gives = { λ words call. meant_by call ≡ call_in words };
+
+    // Kind 0 is set, any other is exchange.
+    fn from(words: [u64; 3]) -> Self {
+        let [kind, first, second] = words;
+        if kind == 0 {
+            return Self::Set {
+                game: first,
+                slot: second,
+            };
+        }
+        Self::Exchange {
+            game: first,
+            other: second,
+        }
+    }
+}
+
+impl Call {
+    fn make(self, season: &[u8], sheet: &mut [u8], ledger: &mut [u32], tally: &mut [u64]) -> Reply
+        ensures { outcome result (buffers sheet.new ledger.new tally.new)
+            ≡ call_on season.now (buffers sheet.old ledger.old tally.old) (meant_by self) }
+    {
+        match self {
+            Self::Set { game, slot } => checker::season_set(
+                season, sheet, ledger, tally, game, slot,
+            ),
+            Self::Exchange { game, other } => checker::season_exchange(
+                season, sheet, ledger, tally, game, other,
+            ),
+        }
+    }
+}
+
+// Opens, and makes each call of the list, three words a call, whatever the replies are. Season, sheet, ledger and tally stay parameters, as
+// they are of the exported calls: of a struct of `&mut`s each clause would have to say `entry` or `exit`, and its fields.
 pub fn play(
     season: &[u8],
     sheet: &mut [u8],
@@ -40,19 +64,10 @@ pub fn play(
         (calls_of calls.now) result (buffers sheet.new ledger.new tally.new) }
 {
     let mut played = Played::of(checker::season_open(season, &*sheet, ledger, tally));
-    let mut i = 0;
-    while i + 3 <= calls.len() {
-        let reply = make(
-            season,
-            sheet,
-            ledger,
-            tally,
-            calls[i],
-            calls[i + 1],
-            calls[i + 2],
-        );
+    let (calls, _) = calls.as_chunks::<3>();
+    for &words in calls {
+        let reply = Call::from(words).make(season, sheet, ledger, tally);
         played = played.then(reply);
-        i += 3;
     }
     played
 }

@@ -1,6 +1,7 @@
 -- What a reply says of the report: a refusal's number, or no fault and the rows.
 use mathlib.Core.Path.{◌≡◌, refl, sym, ap, ◌∙◌}
 use mathlib.Core.List.{List, ◌++◌}
+use mathlib.Core.Logic.{◌≢◌}
 use mathlib.Core.Bool.{true, false, true≢false}
 use Prim.Native.Nat.{ℕ, zero, suc}
 use native.Mathlib.Omega.{arith}
@@ -12,7 +13,7 @@ use Rattle.robinx.specs.declared.Reply.{Reply}
 use Rattle.robinx.proofs.Passed.{none_true}
 use Rattle.report_reply.specs.ReportReply.{up_to_six, reply_unless, report_reply, TallyOf}
 use Rattle.report_reply.proofs.Answered.{after_six}
-use Rattle.report.specs.ReportRows.{Written, rows_of, Reported}
+use Rattle.report.specs.ReportRows.{rows_of}
 
 abbrev report_verdict : List ℕ → ℕ
 report_verdict input =
@@ -20,14 +21,14 @@ report_verdict input =
     verdict m (sheet_of input) (total is_hard m (timetable m (sheet_of input)))
 
 module _ (input : List ℕ) {a : Reply} (e : a ≡ report_reply input) where
-  pub refusal-reported : a.declined ≡ true → (words : List ℕ) → Reported input (record { fault = a.number; count = 0 }) words
+  pub refusal-reported : a.declined ≡ true → (report_fault input ≢ 0) × (a.number ≡ report_fault input)
   unfolding report_reply
-  refusal-reported h words = go (report_fault input) _ refl e refl
+  refusal-reported h = go (report_fault input) _ refl e refl
     where
       go : (f : ℕ) (r : Reply) → report_fault input ≡ f → a ≡ reply_unless f r → r.declined ≡ false
-          → Reported input (record { fault = a.number; count = 0 }) words
+          → (report_fault input ≢ 0) × (a.number ≡ report_fault input)
       go zero r ef e n = absurd (true≢false (sym h ∙ ap (λ (r : Reply). r.declined) e ∙ n))
-      go (suc k) r ef e n = record { fault = ap (λ (r : Reply). r.number) e ∙ sym ef; rows = λ z. absurd (omega (arith, ef, z)) }
+      go (suc k) r ef e n = (λ z. omega (arith, ef, z), ap (λ (r : Reply). r.number) e ∙ sym ef)
 
   module _ (h : a.declined ≡ false) where
     accepted-told : (report_fault input ≡ 0) × (a.number ≡ report_verdict input)
@@ -45,11 +46,9 @@ module _ (input : List ℕ) {a : Reply} (e : a ≡ report_reply input) where
         rw (c.0, c.1.0, c.1.1.0, c.1.1.1.0, c.1.1.1.1.0)
 
     pub rows-reported : {s : List ℕ} → s ≡ season_of input → (tally : List ℕ)
-        → (report_fault input ≡ 0 → TallyOf (season_of input) (sheet_of input) tally) → {k : ℕ} {words : List ℕ}
-        → ((sheet : List ℕ) → TallyOf s sheet tally → Written (rows_of a.number s sheet) k words)
-        → Reported input (record { fault = 0; count = k }) words
+        → (report_fault input ≡ 0 → TallyOf (season_of input) (sheet_of input) tally) → {rows : List (List ℕ)}
+        → ((sheet : List ℕ) → TallyOf s sheet tally → rows ≡ rows_of a.number s sheet)
+        → (report_fault input ≡ 0) × (rows ≡ report_rows input)
     unfolding report_rows
-    rows-reported es tally t w = record {
-      fault = sym accepted-told.0;
-      rows = λ z. rw accepted-told.1 at ((rw es at w) (sheet_of input) (t z));
-    }
+    rows-reported es tally t w =
+        (accepted-told.0, rw accepted-told.1 at ((rw es at w) (sheet_of input) (t accepted-told.0)))

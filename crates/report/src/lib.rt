@@ -1,99 +1,73 @@
-// The report of a season and its sheet (docs/FORMAT.md, section 8): its rows as words.
+// The report of a season and its sheet (docs/FORMAT.md, section 8): its rows.
 
 #![tactic(auto)]
 
-ghost use Rattle.std.specs.Prelude.{◌≡◌, List, ◌∷◌, [], ◌++◌, ℕ, ◌+◌, ◌*◌, ◌≤◌, ◌<◌, length};
+ghost use Rattle.std.specs.Prelude.{◌≡◌, List, ◌++◌, ℕ, ◌+◌, ◌≤◌, length, take};
 ghost use Rattle.robinx.specs.Season.{most_constraints};
 ghost use Rattle.robinx.specs.Refusals.{first_true, of_season};
 ghost use Rattle.reader.specs.Sizes.{Measured};
 ghost use Rattle.report_reply.specs.ReportReply.{TallyOf};
-ghost use Rattle.report.specs.ReportRows.{Written, penalty_of, broken_of, rows_of, Reported};
+ghost use Rattle.report.specs.ReportRows.{broken_of, rows_of, Reported};
 
 use robinx::Season;
 
 // The most bytes of an input that are read: one more than the longest season with its sheet, so that the sheet of a longer input is too long.
 pub const MOST_BYTES: usize = 6 + 2 * Season::GAMES + 24 * Season::CONSTRAINTS + Season::GAMES + 1;
 
-// Writes row number k.
-fn put_row(out: &mut [u64], k: usize, first: u64, second: u64, third: u64)
-    requires { 3 * k + 3 ≤ length out.old }
-    ensures { (rows : List (List ℕ)) → Written rows k out.old
-        → Written (rows ++ (first ∷ second ∷ third ∷ []) ∷ []) (k + 1) out.new }
-{
-    let at = 3 * k;
-    out[at] = first;
-    out[at + 1] = second;
-    out[at + 2] = third;
-}
+// The most rows of a report: the first, and one for each constraint.
+pub const MOST_ROWS: usize = Season::CONSTRAINTS + 1;
 
-// Writes the row of constraint c behind k rows, where its penalty is above 0, and gives the number of rows then.
-fn put_broken(season: &[u8], z: Season, c: usize, penalty: u64, out: &mut [u64], k: usize) -> usize
-    requires { (Measured season.now z) × (c < z.constraints) × (3 * k + 3 ≤ length out.old) }
-    ensures { (result ≤ k + 1) × ((first sheet : List ℕ) → penalty ≡ penalty_of season.now sheet c
-        → Written (first ∷ broken_of season.now sheet c) k out.old
-        → Written (first ∷ broken_of season.now sheet (c + 1)) result out.new) }
-{
-    if penalty == 0 {
-        return k;
-    }
-    let read = reader::cursor::constraint_of(season, z, c);
-    put_row(out, k, c as u64, read.kind as u64, penalty);
-    k + 1
-}
+// Verdict, infeasibility and objective; then number, kind and penalty of a constraint.
+pub type Row = [u64; 3];
 
 // Writes the rows of the broken constraints behind the first row, and gives the number of rows then.
-fn put_all_broken(season: &[u8], z: Season, tally: &[u64], out: &mut [u64]) -> usize
-    requires { (Measured season.now z) × (z.constraints ≤ length tally.now) × (3 * (z.constraints + 1) ≤ length out.old) }
-    ensures { (first sheet : List ℕ) → TallyOf season.now sheet tally.now
-        → Written (first ∷ []) 1 out.old
-        → Written (first ∷ broken_of season.now sheet z.constraints) result out.new }
+fn put_broken(season: &[u8], z: Season, tally: &[u64], out: &mut [Row]) -> usize
+    requires { (Measured season.now z) × (z.constraints ≤ length tally.now) × (z.constraints + 1 ≤ length out.old) }
+    ensures room { result ≤ length out.new }
+    ensures rows { (sheet : List ℕ) → TallyOf season.now sheet tally.now
+        → take result out.new ≡ take 1 out.old ++ broken_of season.now sheet z.constraints }
 {
-    let mut k = 1;
-    let mut c = 0;
-    while c < z.constraints {
-        k = put_broken(season, z, c, tally[c], &mut *out, k);
-        c += 1;
+    let mut count = 1;
+    let penalties = &tally[..z.constraints];
+    for (c, &penalty) in penalties.iter().enumerate() {
+        if penalty == 0 {
+            continue;
+        }
+        let kind = reader::cursor::constraint_of(season, z, c).kind;
+        out[count] = [c as u64, u64::from(kind), penalty];
+        count += 1;
     }
-    k
+    count
 }
 
 // Writes the rows of an accepted opening, and gives their number.
-fn put_rows(season: &[u8], verdict: u8, tally: &[u64], out: &mut [u64]) -> usize
+#[tactic(auto, using(report_reply::proofs::Sixth::few_words))]
+fn put_rows(season: &[u8], verdict: u8, tally: &[u64], out: &mut [Row]) -> usize
     requires { (first_true (of_season season.now) ≡ 0) × (length tally.now ≡ most_constraints + 2)
-        × (length out.old ≡ 3 * (most_constraints + 1)) }
-    ensures { (sheet : List ℕ) → TallyOf season.now sheet tally.now
-        → Written (rows_of verdict season.now sheet) result out.new }
+        × (most_constraints + 1 ≤ length out.old) }
+    ensures room { result ≤ length out.new }
+    ensures rows { (sheet : List ℕ) → TallyOf season.now sheet tally.now
+        → take result out.new ≡ rows_of verdict season.now sheet }
 {
     let z = reader::sizes(season);
-    let at = z.constraints;
-    let hard = tally[at];
-    let soft = tally[at + 1];
-    put_row(&mut *out, 0, verdict as u64, hard, soft);
-    put_all_broken(season, z, tally, out)
+    let hard = tally[z.constraints];
+    let soft = tally[z.constraints + 1];
+    out[0] = [u64::from(verdict), hard, soft];
+    put_broken(season, z, tally, out)
 }
 
-// The number of the refusal, or 0 and then the number of rows.
-#[derive(Clone, Copy)]
-pub struct Report {
-    pub fault: u8,
-    pub count: usize,
-}
-
-// The report of an input, season and then sheet: its rows of three words, one after the other.
-pub fn rows(input: &[u8], out: &mut [u64]) -> Report
-    requires { length out.old ≡ 3 * (most_constraints + 1) }
-    ensures { Reported input.now result out.new }
+// The report of an input, season and then sheet: its rows, or the number of the refusal.
+pub fn rows<'a>(input: &[u8], out: &'a mut [Row]) -> Result<&'a [Row], u8>
+    requires { most_constraints + 1 ≤ length out.old }
+    ensures { Reported input.now result }
 {
     let mut ledger = [0u32; report_reply::MOST_DEVIATIONS];
     let mut tally = [0u64; Season::CONSTRAINTS + 2];
     let reply = report_reply::open(input, &mut ledger, &mut tally);
     if reply.declined {
-        return Report {
-            fault: reply.number,
-            count: 0,
-        };
+        return Err(reply.number);
     }
     let end = report_reply::season_end(input);
     let count = put_rows(&input[..end], reply.number, &tally, out);
-    Report { fault: 0, count }
+    Ok(&out[..count])
 }

@@ -1,18 +1,10 @@
--- The calls made so far: their outcome and their sums, whatever the opening was made on. Assumes nothing.
-use mathlib.Core.Path.{◌≡◌}
-use mathlib.Core.List.{[]}
-use Prim.Native.Nat.{◌-◌, ◌≤◌}
-use lib.ListN.{length, drop}
-use Rattle.robinx.specs.Calls.{Buffers, buffers}
-use Rattle.replay.specs.Play.{calls_of, Replays}
-use Rattle.replay.proofs.CallSteps.{Made}
+-- The calls made so far: their outcome and their sums.
+use mathlib.Core.List.{map}
+use lib.ListN.{take}
+use Rattle.robinx.specs.Calls.{buffers}
+use Rattle.replay.specs.Play.{call_in, Replays}
 use Rattle.replay.proofs.play.Given as goal
 
-abbrev pub invariant-loop-i : goal.invariant-loop-i
-invariant-loop-i l =
-    (l.i ≤ length l.calls) × (length l.sheet ≡ length l.initial.sheet) × (length l.ledger ≡ length l.initial.ledger) × (length l.tally ≡ length l.initial.tally)
-    × ((b : Buffers) → Replays l.season b [] l.initial.played (buffers l.initial.sheet l.initial.ledger l.initial.tally)
-    → Made l.season b (calls_of l.calls) (calls_of (drop l.i l.calls)) l.played (buffers l.sheet l.ledger l.tally))
-
-abbrev pub decreases-loop-i : goal.decreases-loop-i
-decreases-loop-i l = length l.calls - l.i
+abbrev pub invariant-loop-words : goal.invariant-loop-words
+invariant-loop-words l =
+    Replays l.season (buffers l.fn.sheet l.fn.ledger l.fn.tally) (map call_in (take l.words-index l.calls)) l.played (buffers l.sheet l.ledger l.tally)

@@ -1,21 +1,25 @@
--- A penalty of 0 has no row, any other one has.
-use mathlib.Core.List.{◌∷◌}
+-- Each constraint in turn: the rows of those below c are written, at most one each.
 use native.Mathlib.Omega.{arith}
 use borrow.Author.Rules.{rules}
+use Rattle.std.proofs.lemmas.List.{length-take}
 use Rattle.robinx.specs.Season.{decode}
-use Rattle.robinx.specs.Report.{broken_rows}
-use Rattle.report.proofs.Written.{not-broken, broken}
+use Rattle.report.proofs.Broken.{none_yet, not-broken, row-more, penalty-read}
 use Rattle.report.proofs.put_broken.Goals as goal
 
-pub returns-then-penalty-eq0 : goal.returns-then-penalty-eq0
-returns-then-penalty-eq0 c =
-    (search rules, λ first sheet e w. rw (not-broken (decode c.args.season.now) sheet c.args.c e (omega (arith, c.if-penalty-eq0.true))) w)
+pub loop-c-init : goal.loop-c-init
+loop-c-init c = record { few = search rules; rows = λ sheet f. none_yet (decode c.args.season.now) sheet _ }
 
-pub returns : goal.returns
-returns c = (
-  search rules,
-  λ first sheet e w.
-      let m = decode c.args.season.now in
-      rw (broken m sheet c.args.c e c.constraint_of-read.ensures (λ z. omega (arith, z, c.if-penalty-eq0.false)))
-      (c.put_row.ensures (first ∷ broken_rows m sheet c.args.c) w),
-)
+pub loop-c-preserved-then-penalty-eq0 : goal.loop-c-preserved-then-penalty-eq0
+loop-c-preserved-then-penalty-eq0 c = record {
+  few = search rules;
+  rows = λ sheet f. rw (← not-broken (decode c.args.season.now) sheet c.loop-c.c (penalty-read _ sheet _ f c.requires.0.sizes c.loop-c-test.true) c.if-penalty-eq0.true)
+      (c.loop-c.invariant.rows sheet f);
+}
+
+pub loop-c-preserved : goal.loop-c-preserved
+loop-c-preserved c = record {
+  few = search rules;
+  rows = λ sheet f. rw c.from.ensures
+      (row-more (decode c.args.season.now) sheet c.loop-c.c (penalty-read _ sheet _ f c.requires.0.sizes c.loop-c-test.true) c.constraint_of-kind.ensures
+      c.if-penalty-eq0.false _ _ c.loop-c.count (omega (arith, length-take c.args.z.constraints c.args.tally.now)) (c.loop-c.invariant.rows sheet f));
+}
