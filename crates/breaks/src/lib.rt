@@ -8,6 +8,8 @@ ghost use Rattle.robinx.specs.Sums.{sum_to, only};
 ghost use Rattle.robinx.specs.Groups.{has};
 ghost use Rattle.robinx.specs.Timetable.{first_modes};
 ghost use Rattle.robinx.specs.Rules.{obeys};
+ghost use Rattle.robinx.specs.Kinds.{kind_of};
+ghost use Rattle.robinx.specs.declared.Kind.TheVariants.{Br1, Br2};
 ghost use Rattle.robinx.specs.Deviations.{over, off_target, breaks, dev_br1, dev_br2};
 ghost use Rattle.masks.specs.Masks.{Within, is_break};
 ghost use Rattle.tables.specs.Tables.{Tied, x_of};
@@ -28,12 +30,7 @@ fn breaks_if(asked: bool, side: Slots, all: Slots, s: Slots) -> u32
 }
 
 // A team's breaks of the mode's sides in S.
-fn team_breaks(
-    c: Constraint,
-    z: Season,
-    tables: &Tables,
-    t: usize,
-) -> u32
+fn team_breaks(c: Constraint, z: Season, tables: &Tables, t: usize) -> u32
     requires { (z.teams ≤ most_teams) × (z.slots ≤ most_slots) × (t < z.teams) × (obeys z.teams z.slots c ≡ true) × Tied z.teams tables.now }
     ensures { (result ≡ breaks z.teams z.slots c (x_of tables.now.meets) t) × (result ≤ 2 * most_slots) }
 {
@@ -57,24 +54,19 @@ fn off_target(mode: u8, kmax: u8, v: u32) -> u32
 }
 
 // The deviations of BR1, from one team of the group to the next.
-pub fn fill_breaks(
-    c: Constraint,
-    z: Season,
-    tables: &Tables,
-    out: &mut [u32],
-)
-    requires { Fillable z.teams z.slots c tables.now out.old × (c.kind ≡ 31) }
+pub fn fill_breaks(c: Constraint, z: Season, tables: &Tables, out: &mut [u32])
+    requires { Fillable z.teams z.slots c tables.now out.old × (kind_of c.kind ≡ Br1) }
     ensures { out.new ≡ dev_br1 z.teams z.slots c (x_of tables.now.meets) }
 {
-    fill_each(c.t1, |t| off_target(c.mode, c.kmax, team_breaks(c, z, tables, t)), out);
+    fill_each(
+        c.t1,
+        |t| off_target(c.mode, c.kmax, team_breaks(c, z, tables, t)),
+        out,
+    );
 }
 
 // The breaks of all teams of the group.
-fn group_breaks(
-    c: Constraint,
-    z: Season,
-    tables: &Tables,
-) -> u32
+fn group_breaks(c: Constraint, z: Season, tables: &Tables) -> u32
     requires { (z.teams ≤ most_teams) × (z.slots ≤ most_slots) × (obeys z.teams z.slots c ≡ true) × Tied z.teams tables.now }
     ensures { result ≡ sum_to (λ t. only (has c.t1 t) (breaks z.teams z.slots c (x_of tables.now.meets) t)) z.teams }
 {
@@ -82,13 +74,8 @@ fn group_breaks(
 }
 
 // The deviation of BR2.
-pub fn fill_all_breaks(
-    c: Constraint,
-    z: Season,
-    tables: &Tables,
-    out: &mut [u32],
-)
-    requires { Fillable z.teams z.slots c tables.now out.old × (c.kind ≡ 32) }
+pub fn fill_all_breaks(c: Constraint, z: Season, tables: &Tables, out: &mut [u32])
+    requires { Fillable z.teams z.slots c tables.now out.old × (kind_of c.kind ≡ Br2) }
     ensures { out.new ≡ dev_br2 z.teams z.slots c (x_of tables.now.meets) }
 {
     out[0] = off_target(c.mode, c.kmax, group_breaks(c, z, tables));

@@ -1,51 +1,22 @@
--- `breaks::fill_breaks` meets its contract: before each turn the deviations of the teams passed are in. Assumes nothing.
-use mathlib.Core.Path.{◌≡◌, sym, ◌∙◌}
-use Prim.Native.Nat.{◌<◌}
-use lib.ListN.{length}
+-- `breaks::fill_breaks` meets its contract. Assumes nothing.
+use mathlib.Core.Path.{◌∙◌}
 use borrow.Author.Rules.{rules}
-use Rattle.robinx.specs.Season.{most_teams}
-use Rattle.robinx.specs.Groups.{size}
-use Rattle.robinx.specs.Kinds.{kind_of, form_of, form_at}
-use Rattle.robinx.specs.Deviations.{dev_br1, entries}
-use Rattle.opponents.proofs.Fillable.{limits}
-use Rattle.groups.proofs.MemberWalk.{each_start, each-place, each-few, each_turn, each-end}
+use Prim.Native.Nat.{◌<◌}
+use Rattle.robinx.specs.Kinds.{form_of}
+use Rattle.robinx.specs.Deviations.{dev_br1}
+use Rattle.robinx.proofs.SetBits.{in-below}
+use Rattle.robinx.proofs.GroupSizes.{size-ones}
+use Rattle.opponents.proofs.Fillable.{limits, places_of}
 use Rattle.breaks.proofs.fill_breaks.Goals as goal
-use Rattle.breaks.proofs.fill_breaks.Goals.{After-off_target, Start}
 
-places : (c : Start) → length c.args.out.now ≡ size c.args.n c.args.c.t1
-unfolding entries kind_of form_of form_at
-places c = rw c.requires.1 at c.requires.0.places
+pub fill_each-requires-clause-room : goal.fill_each-requires-clause-room
+unfolding form_of
+fill_each-requires-clause-room c = let r = c.requires.0 in places_of r c.requires.1 ∙ size-ones _ _ (limits r).t1
 
-pub loop-m-init : goal.loop-m-init
-loop-m-init c = each_start c.of-m.ensures c.requires.0.teams (limits c.requires.0).t1 (places (goal.at.loop-m-init c).Start)
-
-pub team_breaks-requires : goal.team_breaks-requires
-team_breaks-requires c =
-    let r = c.requires.0 in (r.teams, r.slots, (c.next-m.ensures _ _ c.loop-m.invariant.ahead).room, r.rules, r.tied)
-
-few : (c : After-off_target) → c.loop-m.at < most_teams
-few c = each-few c.loop-m.invariant c.next-m.ensures
-
-pub offset_bounds-out-at : goal.offset_bounds-out-at
-offset_bounds-out-at c = let r = few (goal.at.offset_bounds-out-at c).After-off_target in search rules
-
-pub bounds-out-at : goal.bounds-out-at
-bounds-out-at c = each-place c.loop-m.invariant c.next-m.ensures
-
-pub overflow_add-at : goal.overflow_add-at
-overflow_add-at c = let r = few (goal.at.overflow_add-at c).After-off_target in search rules
-
-pub loop-m-smaller : goal.loop-m-smaller
-loop-m-smaller c = let x = c.next-m.ensures _ _ c.loop-m.invariant.ahead in search rules
-
-pub loop-m-preserved : goal.loop-m-preserved
-loop-m-preserved c =
-    each_turn c.loop-m.invariant c.next-m.ensures
-    (rw (← c.team_breaks.ensures.0) c.off_target.ensures)
-
-pub shape_of-out : goal.shape_of-out
-shape_of-out c = c.loop-m.invariant.filled.filled.long ∙ sym (places (goal.at.shape_of-out c).Start)
+pub fill_each-requires-clause-callable : goal.fill_each-requires-clause-callable
+fill_each-requires-clause-callable c =
+    λ t l h. let team : t < c.args.z.teams = in-below c.args.c.t1 _ (limits c.requires.0).t1 t h in search rules
 
 pub returns : goal.returns
 unfolding dev_br1
-returns c = each-end c.loop-m.invariant (search rules)
+returns c = let r = c.requires.0 in c.fill_each.ensures _ _ r.teams (limits r).t1 (λ t l h v p. search rules)
