@@ -9,7 +9,7 @@ ghost use Rattle.tables.specs.Tables.{x_of};
 ghost use Rattle.walk.specs.Walk.{Given, SoundTouch, is_touched, stored};
 ghost use Rattle.books.specs.Answer.{Opened, Answered};
 
-use replies::{accepted, verdict};
+use replies::{Verdict, accepted};
 use robinx::{Reply, Season};
 use tables::Tables;
 use totals::Totals;
@@ -58,7 +58,7 @@ pub fn open(
     let moved = walk(season, z, Touch::Everything, tables, ledger, tally);
     let totals = moved.gained;
     store(totals, z.constraints, tally);
-    accepted(verdict(unplaced, totals.hard), totals)
+    accepted(Verdict::of(unplaced, totals.hard), totals)
 }
 
 // The books after a change that touches some constraints, of which the tables are.
@@ -78,5 +78,5 @@ pub fn rework(
     let moved = walk(season, z, touch, tables, ledger, tally);
     let at = z.constraints;
     let change = settle(moved, at, tally);
-    accepted(verdict(unplaced, tally[at]), change)
+    accepted(Verdict::of(unplaced, tally[at]), change)
 }
