@@ -55,7 +55,9 @@ module _ (season sheet tally : List ℕ) (f : TallyOf season sheet tally) where
       get_or-take z.constraints tally c 0 below ∙ at c (omega (arith, few)) ∙ list_at (penalty_of season sheet) (decode season).C c _ few
 
   beyond : (k d : ℕ) → k ≡ (decode season).C + d → d < 2
-      → get_or tally k 0 ≡ get_or (total is_hard (decode season) (timetable (decode season) sheet) ∷ total is_soft (decode season) (timetable (decode season) sheet) ∷ []) d 0
+      → let m = decode season in
+      let x = timetable m sheet in
+      get_or tally k 0 ≡ get_or (total is_hard m x ∷ total is_soft m x ∷ []) d 0
   unfolding fresh_tally
   beyond k d e h = at k (omega (arith, e, h)) ∙ rw e (list-beyond (penalty_of season sheet) (decode season).C d _)
 
@@ -66,8 +68,8 @@ module _ (season sheet tally : List ℕ) (f : TallyOf season sheet tally) where
   soft-read k e = beyond k 1 e (omega arith)
 
   -- the first row and those behind it, with what was read
-  pub rows_told : {z : Season} → z ≡ sizes_of season → {verdict word : ℕ} → word ≡ verdict → {rows : List (List ℕ)} (out : List (List ℕ)) → 0 < length out
-      → rows
+  pub rows_told : {z : Season} → z ≡ sizes_of season → {verdict word : ℕ} → word ≡ verdict → {rows : List (List ℕ)}
+      → (out : List (List ℕ)) → 0 < length out → rows
       ≡ take 1 (set out 0 (word ∷ get_or tally z.constraints 0 ∷ get_or tally (z.constraints + 1) 0 ∷ [])) ++ broken_of season sheet z.constraints
       → rows ≡ rows_of verdict season sheet
   rows_told {z} e v out h w =

@@ -16,4 +16,6 @@ loop-words-preserved c =
     (plays-next _ _ _ c.loop-words.invariant (rw c.from.ensures at c.make-reply.ensures))
 
 pub returns : goal.returns
-returns c = rw (← all-called c.args.calls.now c.loop-words.words-index c.as_chunks.ensures.front (omega (arith, c.loop-words-test.false))) c.loop-words.invariant
+returns c =
+    rw (← all-called c.args.calls.now c.loop-words.words-index c.as_chunks.ensures.front (omega (arith, c.loop-words-test.false)))
+    c.loop-words.invariant

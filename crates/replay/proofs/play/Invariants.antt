@@ -7,4 +7,5 @@ use Rattle.replay.proofs.play.Given as goal
 
 abbrev pub invariant-loop-words : goal.invariant-loop-words
 invariant-loop-words l =
-    Replays l.season (buffers l.fn.sheet l.fn.ledger l.fn.tally) (map call_in (take l.words-index l.calls)) l.played (buffers l.sheet l.ledger l.tally)
+    Replays l.season (buffers l.fn.sheet l.fn.ledger l.fn.tally)
+    (map call_in (take l.words-index l.calls)) l.played (buffers l.sheet l.ledger l.tally)

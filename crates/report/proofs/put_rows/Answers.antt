@@ -19,4 +19,5 @@ put_broken-requires c =
 
 pub returns-clause-rows : goal.returns-clause-rows
 returns-clause-rows c sheet f =
-    rows_told c.args.season.now sheet c.args.tally.now f c.sizes-z.ensures c.from.ensures c.args.out.now (omega (arith, c.requires.2)) (c.put_broken.ensures.rows sheet f)
+    rows_told c.args.season.now sheet c.args.tally.now f c.sizes-z.ensures c.from.ensures
+    c.args.out.now (omega (arith, c.requires.2)) (c.put_broken.ensures.rows sheet f)
