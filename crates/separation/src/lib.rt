@@ -2,11 +2,11 @@
 
 #![tactic(auto)]
 
-ghost use Rattle.std.specs.Prelude.{◌≡◌, true, ◌+◌, ◌<◌, ◌≤◌, ◌^◌};
+ghost use Rattle.std.specs.Prelude.{◌≡◌, ◌<◌, ◌≤◌};
 ghost use Rattle.robinx.specs.Season.{most_teams, most_slots};
-ghost use Rattle.robinx.specs.Groups.{has};
+ghost use Rattle.robinx.specs.Kinds.{kind_of};
+ghost use Rattle.robinx.specs.declared.Kind.TheVariants.{Se1};
 ghost use Rattle.robinx.specs.Deviations.{dev_se1};
-ghost use Rattle.robinx.proofs.Filled.{FilledRows};
 ghost use Rattle.tables.specs.Tables.{x_of};
 ghost use Rattle.opponents.specs.Fillable.{Fillable};
 ghost use Rattle.separation.specs.Closeness.{closeness};
@@ -29,13 +29,8 @@ fn pair_closeness(tables: &Tables, w: u8, p: usize, i: usize, j: usize) -> u32
 }
 
 // The deviations of SE1.
-pub fn fill_separation(
-    c: Constraint,
-    z: Season,
-    tables: &Tables,
-    out: &mut [u32],
-)
-    requires { Fillable z.teams z.slots c tables.now out.old × (c.kind ≡ 51) }
+pub fn fill_separation(c: Constraint, z: Season, tables: &Tables, out: &mut [u32])
+    requires { Fillable z.teams z.slots c tables.now out.old × (kind_of c.kind ≡ Se1) }
     ensures { out.new ≡ dev_se1 z.teams z.slots c (x_of tables.now.meets) }
 {
     fill_pairs(c.t1, |i, j| pair_closeness(tables, c.w, z.slots, i, j), out);

@@ -5,5 +5,5 @@ use Rattle.separation.proofs.pair_closeness.Goals as goal
 pub returns : goal.returns
 returns c =
     let a = c.args in
-    rw (c.closeness.ensures, c.front.ensures, c.union.ensures)
-    (pair-close a.meets.now a.w a.p a.i a.j c.requires.0)
+    rw (c.closeness.ensures, c.front.ensures, c.union-met.ensures)
+    (pair-close a.tables.now.meets a.w a.p a.i a.j c.requires.0)
