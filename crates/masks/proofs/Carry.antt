@@ -10,7 +10,6 @@ use Rattle.robinx.specs.Sums.{only}
 use Rattle.robinx.specs.Groups.{bit, has}
 use Rattle.robinx.specs.Timetable.{last_was}
 use Rattle.robinx.proofs.Sums.{only-le}
-use Rattle.robinx.proofs.Ext.{last_was-ext}
 use Rattle.masks.specs.Masks.{Within, is_break}
 use Rattle.robinx.proofs.Bits.{at_bits, and-bit, or-bit, mod-bit}
 
@@ -69,10 +68,3 @@ within-left m n k = omega (arith, or-bit m n k)
 
 pub within-right : (m n : ℕ) → Within n (bit_or m n)
 within-right m n k = omega (arith, or-bit m n k)
-
--- breaks of masks that are the tests of slots in question
-pub break-is : (side all k : ℕ) {game on_side : ℕ → Bool}
-    → ((a : ℕ) → a < suc k → has all a ≡ game a)
-    → ((a : ℕ) → a < suc k → has side a ≡ on_side a)
-    → is_break side all k ≡ on_side k && last_was game on_side k
-break-is side all k g s = ap₂ ◌&&◌ (s k (omega arith)) (last_was-ext k (λ a l. g a (omega arith)) (λ a l. s a (omega arith)))

@@ -60,6 +60,3 @@ module _ (m k : ℕ) where
   -- no wider than the mask and the slot
   pub joined-lt : (K : ℕ) → m < 2 ^ K → k < K → joined m k < 2 ^ K
   joined-lt K h l = or_lt K m (2 ^ k) h (pow-lt l)
-
-  pub without-lt : (K : ℕ) → m < 2 ^ K → k < K → without m k < 2 ^ K
-  without-lt K h l = xor_lt K (joined m k) (2 ^ k) (joined-lt K h l) (pow-lt l)

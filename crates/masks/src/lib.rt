@@ -215,7 +215,8 @@ fn too_close(w: u8, gap: u32) -> u32
     u32::from(w).saturating_sub(gap)
 }
 
-// How many slots fewer than w lie between a game of the mask and the one before it, summed: from one set bit to the next.
+// How many slots fewer than w lie between a game of the mask and the one before it, summed. The loop goes from one set bit to the next, and counts
+// no index.
 pub fn closeness(v: Slots, w: u8) -> u32
     ensures { result ≡ sum_to (too_close (has v) w) most_slots }
 {

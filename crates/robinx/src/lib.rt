@@ -171,7 +171,8 @@ pub struct Form {
     pub slots: TouchSlots,
 }
 
-// What a call answers: a refusal's number, or a verdict with the changes of infeasibility and objective.
+// What a call answers: a refusal's number, or a verdict with the changes of infeasibility and objective. It is no enum: the C interface
+// reads its flag and its number.
 #[repr(C)]
 #[derive(Clone, Copy)]
 pub struct Reply {

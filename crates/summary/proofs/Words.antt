@@ -1,23 +1,25 @@
 -- A table of 64 words is known by the two words of each team; what its two halves, written one after the other, make of it, and by which words
--- it differs from the patterns. Assumes nothing.
+-- it differs from the patterns.
 use mathlib.Core.Path.{◌≡◌, refl, sym, ap, ap₂, ◌∙◌}
 use mathlib.Core.List.{List, [], ◌∷◌, ◌++◌}
 use mathlib.Core.Bool.{Bool, ◌||◌, not, or_assoc, or-false}
-use Prim.Native.Nat.{ℕ, zero, suc, ◌+◌, ◌-◌, ◌<◌, ◌≤◌}
+use Prim.Native.Nat.{ℕ, zero, suc, ◌+◌, ◌-◌, ◌<◌}
 use native.Mathlib.Omega.{arith}
 use native.Mathlib.Nat.{add-zero, zero-add, add-suc}
-use native.Mathlib.Decide.{ℕ_discrete, dec_lt}
+use native.Mathlib.Decide.{dec_lt}
 use lib.Dec.{eqb}
-use lib.ListN.{length, get_or, set, length-set}
-use lib.Seq.{get_or-set_same, get_or-set_other, ext_get_or}
+use lib.ListN.{length, get_or, take, drop, length-append, length-drop}
+use lib.Seq.{ext_get_or}
 use Rattle.robinx.specs.Sums.{any_to}
 use Rattle.robinx.specs.Season.{most_teams}
 use Rattle.robinx.specs.Summary.{summary_words, team_words}
 use Rattle.robinx.specs.Refusals.{sentence14_open, disagrees}
-use Rattle.robinx.proofs.Ext.{cat-ext, any-ext}
+use Rattle.robinx.proofs.Ext.{any-ext}
 use Rattle.robinx.proofs.Summary.{length-words, home-word, away-word}
 use Rattle.tables.specs.declared.Patterns.{Patterns}
-use Rattle.summary.specs.PatternWords.{words_of, with_half}
+use Rattle.std.specs.List.{zip, list_any}
+use Rattle.std.proofs.lemmas.List.{append-nil, drop_all, take_at, get_or_append_left, get_or-append-add}
+use Rattle.summary.specs.PatternWords.{words_of}
 
 pub words-by-teams : {home away : ℕ → ℕ} (l : List ℕ) → length l ≡ summary_words
     → ((t : ℕ) → t < most_teams → get_or l t 0 ≡ home t) → ((t : ℕ) → t < most_teams → get_or l (most_teams + t) 0 ≡ away t)
@@ -31,56 +33,54 @@ words-by-teams {home} {away} l len at_home at-away = ext_get_or 0 l _ (len ∙ s
         let e : q ≡ most_teams + t = omega arith in
         rw e (at-away t (omega arith) ∙ sym (away-word home away t (omega arith)))
 
-pub same-words : {home away home' away' : ℕ → ℕ} → ((t : ℕ) → t < most_teams → home t ≡ home' t) → ((t : ℕ) → t < most_teams → away t ≡ away' t)
-    → team_words home away ≡ team_words home' away'
-same-words at_home at-away =
-    ap₂ ◌++◌ (cat-ext most_teams (λ t l. ap (λ (v : ℕ). v ∷ []) (at_home t l))) (cat-ext most_teams (λ t l. ap (λ (v : ℕ). v ∷ []) (at-away t l)))
+-- both halves, laid one after the other
+laid : (l home away : List ℕ) → length l ≡ summary_words → length home ≡ most_teams → length away ≡ most_teams
+    → take most_teams (take 0 l ++ home ++ drop most_teams l) ++ away ++ drop summary_words (take 0 l ++ home ++ drop most_teams l) ≡ home ++ away
+laid l home away n h a =
+    ap₂ (λ (front rest : List ℕ). front ++ away ++ rest) (take_at home (drop most_teams l) most_teams h)
+    (drop_all summary_words (home ++ drop most_teams l) (omega (arith, length-append home (drop most_teams l), length-drop most_teams l)))
+    ∙ append-nil (home ++ away)
 
--- one half
-module _ (half : List ℕ) (at : ℕ) (l : List ℕ) where
-  pub length-half : (n : ℕ) → length (with_half half at n l) ≡ length l
-  unfolding with_half
-  length-half zero = refl
-  length-half (suc n) = length-set (with_half half at n l) (at + n) (get_or half n 0) ∙ length-half n
+pub two-halves-are-the-words : (p : Patterns) (l : List ℕ) → length l ≡ summary_words → length p.home ≡ most_teams → length p.away ≡ most_teams
+    → take most_teams (take 0 l ++ p.home ++ drop most_teams l) ++ p.away ++ drop summary_words (take 0 l ++ p.home ++ drop most_teams l) ≡ words_of p
+two-halves-are-the-words p l n h a =
+    laid l p.home p.away n h a
+    ∙ words-by-teams (p.home ++ p.away) (length-append p.home p.away ∙ omega arith)
+    (λ t low. get_or_append_left p.home p.away 0 t (omega arith))
+    (λ t low. rw (← h) (get_or-append-add p.home p.away t 0))
 
-  half-word : (n t : ℕ) → at + n ≤ length l → t < n → get_or (with_half half at n l) (at + t) 0 ≡ get_or half t 0
-  unfolding with_half
-  half-word zero t fits low = absurd (omega arith)
-  half-word (suc n) t fits low = go (ℕ_discrete t n) (half-word n t (omega arith))
-    where
-      go : Dec (t ≡ n) → (t < n → get_or (with_half half at n l) (at + t) 0 ≡ get_or half t 0)
-          → get_or (set (with_half half at n l) (at + n) (get_or half n 0)) (at + t) 0 ≡ get_or half t 0
-      go (yes e) ih = rw e (get_or-set_same (with_half half at n l) (at + n) (get_or half n 0) 0 (omega (arith, length-half n)))
-      go (no e) ih = get_or-set_other (with_half half at n l) (at + n) (at + t) (get_or half n 0) 0 (λ p. e (omega arith)) ∙ ih (omega arith)
+-- a search from the first place on
+any-first : (f : ℕ → Bool) (n : ℕ) → any_to f (suc n) ≡ f 0 || any_to (λ k. f (suc k)) n
+unfolding any_to
+any-first f zero = rw or-false
+any-first f (suc n) = ap (λ (b : Bool). b || f (suc n)) (any-first f n) ∙ or_assoc (f 0) (any_to (λ k. f (suc k)) n) (f (suc n))
 
-  word-before : (n q : ℕ) → q < at → get_or (with_half half at n l) q 0 ≡ get_or l q 0
-  unfolding with_half
-  word-before zero q low = refl
-  word-before (suc n) q low =
-      get_or-set_other (with_half half at n l) (at + n) q (get_or half n 0) 0 (λ p. omega arith) ∙ word-before n q low
-
--- both halves
-pub two-halves-are-the-words : (p : Patterns) (l : List ℕ) → length l ≡ summary_words
-    → with_half p.away most_teams most_teams (with_half p.home 0 most_teams l) ≡ words_of p
-two-halves-are-the-words p l len =
-    let first = with_half p.home 0 most_teams l in
-    words-by-teams (with_half p.away most_teams most_teams first) (length-half p.away most_teams first most_teams ∙ length-half p.home 0 l most_teams ∙ len)
-    (λ t low. word-before p.away most_teams first most_teams t low ∙ rw (zero-add t) at (half-word p.home 0 l most_teams t (omega arith) low))
-    (λ t low. half-word p.away most_teams first most_teams t (omega (arith, length-half p.home 0 l most_teams)) low)
+pub any-zip : (xs ys : List ℕ) → length xs ≡ length ys
+    → list_any (λ p. not (eqb p.0 p.1)) (zip xs ys) ≡ any_to (λ t. not (eqb (get_or xs t 0) (get_or ys t 0))) (length ys)
+unfolding any_to
+any-zip [] [] e = refl
+any-zip [] (y ∷ ys) e = absurd (omega arith)
+any-zip (x ∷ xs) [] e = absurd (omega arith)
+any-zip (x ∷ xs) (y ∷ ys) e =
+    ap (λ (b : Bool). not (eqb x y) || b) (any-zip xs ys (omega arith))
+    ∙ sym (any-first (λ t. not (eqb (get_or (x ∷ xs) t 0) (get_or (y ∷ ys) t 0))) (length ys))
 
 any-split : (f : ℕ → Bool) (a w : ℕ) → any_to f (a + w) ≡ any_to f a || any_to (λ d. f (a + d)) w
 unfolding any_to
 any-split f a zero = rw (add-zero a, or-false (any_to f a))
-any-split f a (suc w) = ap (any_to f) (add-suc a w) ∙ ap (λ (b : Bool). b || f (a + w)) (any-split f a w) ∙ or_assoc (any_to f a) (any_to (λ d. f (a + d)) w) (f (a + w))
+any-split f a (suc w) =
+    ap (any_to f) (add-suc a w) ∙ ap (λ (b : Bool). b || f (a + w)) (any-split f a w)
+    ∙ or_assoc (any_to f a) (any_to (λ d. f (a + d)) w) (f (a + w))
 
 -- what looking at one half, from place at on, finds
 abbrev pub other_in : List ℕ → List ℕ → ℕ → ℕ → Bool
 other_in held half at t = not (eqb (get_or held (at + t) 0) (get_or half t 0))
 
-pub differs-in-a-half : (p : Patterns) (held : List ℕ)
-    → disagrees held (words_of p) ≡ sentence14_open held || (any_to (other_in held p.home 0) most_teams || any_to (other_in held p.away most_teams) most_teams)
+pub differs_in_a_half : (p : Patterns) (held : List ℕ)
+    → disagrees held (words_of p)
+    ≡ sentence14_open held || (any_to (other_in held p.home 0) most_teams || any_to (other_in held p.away most_teams) most_teams)
 unfolding disagrees
-differs-in-a-half p held =
+differs_in_a_half p held =
     ap (λ (b : Bool). sentence14_open held || b) (any-split (λ q. not (eqb (get_or held q 0) (get_or (words_of p) q 0))) most_teams most_teams
     ∙ ap₂ ◌||◌
     (any-ext most_teams (λ t low. ap₂ (λ (q v : ℕ). not (eqb (get_or held q 0) v)) (sym (zero-add t)) (home-word _ _ t low)))

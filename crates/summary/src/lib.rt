@@ -2,13 +2,13 @@
 
 #![tactic(auto)]
 
-ghost use Rattle.std.specs.Prelude.{◌≡◌, not, ◌+◌, ◌<◌, ◌≤◌, eqb, length, get_or};
+ghost use Rattle.std.specs.Prelude.{◌≡◌, not, ◌++◌, ◌+◌, ◌<◌, ◌≤◌, eqb, length, get_or, take, drop};
 ghost use Rattle.robinx.specs.Season.{most_teams};
 ghost use Rattle.robinx.specs.Sums.{any_to};
 ghost use Rattle.robinx.specs.Summary.{summary_words};
 ghost use Rattle.robinx.specs.Refusals.{disagrees};
 ghost use Rattle.timetable.specs.OfSheet.{Teams};
-ghost use Rattle.summary.specs.PatternWords.{words_of, with_half, with_team};
+ghost use Rattle.summary.specs.PatternWords.{words_of, with_team};
 
 use robinx::{Season, Slots};
 use tables::Patterns;
@@ -23,16 +23,12 @@ pub fn misfits(words: usize) -> bool
     words != WORDS
 }
 
-// Writes one half, from place at on.
+// Writes one half, from place at on. The tables of a sheet go by value, here and below: the customer named this form.
 fn lay_half(half: [Slots; Season::TEAMS], at: usize, summary: &mut [u64])
     requires { at + most_teams ≤ length summary.old }
-    ensures { summary.new ≡ with_half half at most_teams summary.old }
+    ensures { summary.new ≡ take at summary.old ++ half ++ drop (at + most_teams) summary.old }
 {
-    let mut t = 0;
-    while t < Season::TEAMS {
-        summary[at + t] = half[t];
-        t += 1;
-    }
+    summary[at..at + Season::TEAMS].copy_from_slice(&half);
 }
 
 // Writes every word.
@@ -40,10 +36,8 @@ pub fn lay(patterns: Patterns, summary: &mut [u64])
     requires { length summary.old ≡ summary_words }
     ensures { summary.new ≡ words_of patterns }
 {
-    let home = patterns.home;
-    let away = patterns.away;
-    lay_half(home, 0, &mut *summary);
-    lay_half(away, Season::TEAMS, summary);
+    lay_half(patterns.home, 0, &mut *summary);
+    lay_half(patterns.away, Season::TEAMS, summary);
 }
 
 // A word of one half, from place at on, is another one.
@@ -51,29 +45,20 @@ fn half_differs(half: [Slots; Season::TEAMS], at: usize, summary: &[u64]) -> boo
     requires { at + most_teams ≤ length summary.now }
     ensures { result ≡ any_to (λ t. not (eqb (get_or summary.now (at + t) 0) (get_or half t 0))) most_teams }
 {
-    let mut i = 0;
-    while i < Season::TEAMS {
-        if summary[at + i] != half[i] {
-            return true;
-        }
-        i += 1;
-    }
-    false
+    summary[at..at + Season::TEAMS]
+        .iter()
+        .zip(&half)
+        .any(|(word, right)| *word != *right)
 }
 
 // Sentence 14 of set and exchange, by the patterns of the sheet.
+#[tactic(auto, using(crate::proofs::Words::differs_in_a_half), unfolding(robinx::specs::Refusals::sentence14_open))]
 pub fn disagrees(patterns: Patterns, summary: &[u64]) -> bool
     ensures { result ≡ disagrees summary.now (words_of patterns) }
 {
-    if misfits(summary.len()) {
-        return true;
-    }
-    let home = patterns.home;
-    let away = patterns.away;
-    if half_differs(home, 0, summary) {
-        return true;
-    }
-    half_differs(away, Season::TEAMS, summary)
+    misfits(summary.len())
+        || half_differs(patterns.home, 0, summary)
+        || half_differs(patterns.away, Season::TEAMS, summary)
 }
 
 // Writes the two words of team t.
@@ -81,10 +66,8 @@ fn write_team(patterns: Patterns, t: usize, summary: &mut [u64])
     requires { (t < most_teams) × (length summary.old ≡ summary_words) }
     ensures { summary.new ≡ with_team patterns t summary.old }
 {
-    let home = patterns.home;
-    let away = patterns.away;
-    summary[t] = home[t];
-    summary[Season::TEAMS + t] = away[t];
+    summary[t] = patterns.home[t];
+    summary[Season::TEAMS + t] = patterns.away[t];
 }
 
 // Writes the words of the two teams of game g.
@@ -93,6 +76,6 @@ pub fn write_game(patterns: Patterns, homes: &[u8], aways: &[u8], g: usize, summ
     ensures { summary.new
         ≡ with_team patterns (get_or aways.now g 0) (with_team patterns (get_or homes.now g 0) summary.old) }
 {
-    write_team(patterns, homes[g] as usize, summary);
-    write_team(patterns, aways[g] as usize, summary);
+    write_team(patterns, usize::from(homes[g]), summary);
+    write_team(patterns, usize::from(aways[g]), summary);
 }

@@ -1,25 +1,23 @@
--- Before turn i none of the first i words of the half is another one. Assumes nothing.
-use mathlib.Core.Path.{◌≡◌, refl, sym, ap, ap₂, ◌∙◌}
-use mathlib.Core.Bool.{◌||◌, not}
-use native.Mathlib.Omega.{arith}
+-- The words of the half in turn.
+use Rattle.std.proofs.Common.{◌≡◌, ℕ, ◌+◌, not, eqb, length, get_or, ap, ◌∙◌, arith, rules}
+use borrow.Author.Tests.{tests}
+use Rattle.std.specs.List.{between}
+use Rattle.std.proofs.lemmas.Iterator.{YieldsList-from_slice, YieldsList-from_zip}
+use Rattle.std.proofs.lemmas.Iterator.Search.{any_from_yields_List}
+use Rattle.std.proofs.lemmas.List.Edits.{length-between, get_or-between}
 use Rattle.robinx.specs.Season.{most_teams}
 use Rattle.robinx.specs.Sums.{any_to}
-use Rattle.robinx.proofs.Sums.{any_step, any_some}
-use borrow.Author.Rules.{rules}
-use borrow.Author.Tests.{eq-eqb, ne_eqb}
+use Rattle.robinx.proofs.Ext.{any-ext}
+use Rattle.summary.proofs.Words.{any-zip}
 use Rattle.summary.proofs.half_differs.Goals as goal
-
-pub loop-i-init : goal.loop-i-init
-unfolding any_to
-loop-i-init c = (search rules, refl)
-
-pub returns-then-summary-at : goal.returns-then-summary-at
-returns-then-summary-at c = sym (any_some _ most_teams c.loop-i.i c.loop-i-test.true (ap not (ne_eqb _ _ c.if-summary-at.true)))
-
-pub loop-i-preserved : goal.loop-i-preserved
-loop-i-preserved c = (search rules, any_step _ c.loop-i.i ∙ ap₂ ◌||◌ c.loop-i.invariant.1 (ap not (eq-eqb _ _ c.if-summary-at.false)))
 
 pub returns : goal.returns
 returns c =
-    let l = c.loop-i in
-    let e : l.i ≡ most_teams = omega arith in sym (rw e at l.invariant.1)
+    let a = c.args in
+    let part = between a.at (a.at + most_teams) a.summary.now in
+    let long : length a.half ≡ most_teams = search rules in
+    any_from_yields_List (λ p. not (eqb p.0 p.1)) c.any.new.self _ c.any.result c.any.ensures.ran
+    (YieldsList-from_zip (YieldsList-from_slice part (cc)) (YieldsList-from_slice a.half (cc))) (λ x b q k. search (rules, tests))
+    ∙ any-zip part a.half (length-between a.summary.now a.at (a.at + most_teams) c.requires ∙ omega (arith, long))
+    ∙ ap (any_to (λ t. not (eqb (get_or part t 0) (get_or a.half t 0)))) long
+    ∙ any-ext most_teams (λ t l. ap (λ (v : ℕ). not (eqb v (get_or a.half t 0))) (get_or-between a.summary.now a.at (a.at + most_teams) t 0 (omega arith)))
