@@ -3,8 +3,6 @@
 
 #![tactic(auto)]
 
-ghost use Rattle.std.specs.Prelude.{◌+◌, ◌<◌, ◌≤◌, length, IfOk};
-
 use std::io;
 
 // The most bytes of standard input that are read.
@@ -17,24 +15,17 @@ fn print_case(rt: &impl Print, season: &[u8]) -> io::Result<()> {
     }
 }
 
-// Prints the case at a place and gives the place after it. A case that the input cuts off is the last.
-fn next_case(rt: &impl Print, input: &[u8], at: usize) -> io::Result<usize>
-    requires { at + 2 ≤ length input.now }
-    ensures { IfOk result (λ end. (at < end) × (end ≤ length input.now)) }
-{
-    let start = at + 2;
-    let end = start + reader::short(input, at);
-    if input.len() < end {
-        return Ok(input.len());
-    }
-    print_case(rt, &input[start..end])?;
-    Ok(end)
-}
-
+// A case that the input cuts off is the last, and is not printed.
 fn print_cases(rt: &impl Print, input: &[u8]) -> io::Result<()> {
-    let mut at: usize = 0;
-    while at + 2 <= input.len() {
-        at = next_case(rt, input, at)?;
+    let mut rest = input;
+    while let Some((length, after)) = rest.split_first_chunk() {
+        let Some((season, others)) = after.split_at_checked(usize::from(u16::from_le_bytes(
+            *length,
+        ))) else {
+            return Ok(());
+        };
+        print_case(rt, season)?;
+        rest = others;
     }
     Ok(())
 }

@@ -1,9 +1,6 @@
--- The place stays inside the input and rises with each case.
-use Rattle.std.proofs.Common.{length, ◌-◌, ◌≤◌}
+-- What is left of the input shrinks with each case.
+use Rattle.std.proofs.Common.{length}
 use Rattle.season_cases.proofs.print_cases.Given as goal
 
-abbrev pub invariant-loop-at : goal.invariant-loop-at
-invariant-loop-at g l = l.at ≤ length l.input
-
-abbrev pub decreases-loop-at : goal.decreases-loop-at
-decreases-loop-at g l = length l.input - l.at
+abbrev pub decreases-loop-length : goal.decreases-loop-length
+decreases-loop-length g l = length l.rest
