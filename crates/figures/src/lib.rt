@@ -2,7 +2,7 @@
 
 #![tactic(auto)]
 
-ghost use Rattle.std.specs.Prelude.{◌≡◌, ◌≤◌};
+ghost use Rattle.std.specs.Prelude.{◌≡◌};
 ghost use Rattle.robinx.specs.Deviations.{deviations};
 ghost use Rattle.tables.specs.Tables.{x_of};
 ghost use Rattle.opponents.specs.Fillable.{Fillable};
@@ -11,6 +11,7 @@ use robinx::{Constraint, Kind, Season};
 use tables::Tables;
 
 // The deviations of a constraint. What is no kind has none; the rules leave no such constraint.
+#[tactic(auto, unfolding(robinx::specs::Deviations::deviations, robinx::specs::Deviations::deviations_of))]
 pub fn fill(c: Constraint, z: Season, tables: &Tables, out: &mut [u32])
     requires { Fillable z.teams z.slots c tables.now out.old }
     ensures { out.new ≡ deviations z.teams z.slots c (x_of tables.now.meets) }
