@@ -1,44 +1,45 @@
 -- Words of bytes, and running counts eight slots at a time: the counts of a byte's own slots, with the count before them added to each, are
 -- the mask's counts. Assumes nothing.
-use mathlib.Core.Path.{◌≡◌, sym, ap, ◌∙◌}
+use mathlib.Core.Path.{◌≡◌, refl, sym, ap, ◌∙◌}
+use mathlib.Core.List.{List, []}
+use mathlib.Core.Logic.{◌⊎◌, inl, inr}
 use Prim.Native.Nat.{ℕ, zero, suc, ◌+◌, ◌*◌, ◌/◌, ◌%◌, ◌^◌, ◌<◌, ◌≤◌}
 use native.Mathlib.Omega.{arith}
-use native.Mathlib.Nat.{div-one, add-suc}
+use native.Mathlib.Nat.{add-suc}
 use lib.Dec.{lit<}
-use lib.Pow.{pow-add, shr-shr}
+use Rattle.std.proofs.Common.{pow-suc}
+use lib.ListN.{get_or}
+use Rattle.std.specs.Int.{w64, to_le_bytes}
+use Rattle.std.proofs.lemmas.List.{get_or_past}
+use Rattle.std.proofs.lemmas.Nat.{le_bytes_8}
+use Rattle.std.proofs.lemmas.Bool.{cases_lt}
 use Rattle.robinx.specs.Season.{most_slots}
-use Rattle.robinx.specs.Sums.{sum_to}
+use Rattle.robinx.specs.Sums.{sum_to, cat_to, list_to}
 use Rattle.robinx.specs.Groups.{bit}
 use Rattle.robinx.proofs.Sums.{sum_bound, sum-split}
 use Rattle.robinx.proofs.Ext.{sum-ext}
-use Rattle.rows.specs.Rows.{up_to, packed, byte}
+use Rattle.robinx.proofs.Lengths.{list_at}
+use Rattle.rows.specs.Rows.{up_to, packed}
 use Rattle.robinx.proofs.Bits.{bit-lt, shift-bit, mod-bit}
 
 -- below n, f is a byte
 abbrev Bytes : (ℕ → ℕ) → ℕ → Type 0
 Bytes f n = (j : ℕ) → j < n → f j < 256
 
-byte_more : (n : ℕ) → 2 ^ (suc n * 8) ≡ 2 ^ (n * 8) * 256
-byte_more n = let e : suc n * 8 ≡ n * 8 + 8 = omega arith in ap (λ (z : ℕ). 2 ^ z) e ∙ pow-add 2 (n * 8) 8
-
-packed_lt : (f : ℕ → ℕ) (n : ℕ) → Bytes f n → packed f n < 2 ^ (n * 8)
+packed_lt : (f : ℕ → ℕ) (n : ℕ) → Bytes f n → packed f n < 256 ^ n
 unfolding packed
 packed_lt f zero h = lit< tt
 packed_lt f (suc n) h =
-    omega (arith, byte_more n, h 0 (omega arith), packed_lt (λ j. f (suc j)) n (λ j l. h (suc j) (omega arith)))
+    omega (arith, pow-suc 256 n, h 0 (omega arith), packed_lt (λ j. f (suc j)) n (λ j l. h (suc j) (omega arith)))
 
-packed_byte : (f : ℕ → ℕ) (n j : ℕ) → j < n → Bytes f n → byte (packed f n) j ≡ f j
-unfolding packed
-packed_byte f zero j l h = absurd (omega arith)
-packed_byte f (suc n) zero l h = omega (arith, div-one (f 0 + packed (λ j. f (suc j)) n * 256), h 0 (omega arith))
-packed_byte f (suc n) (suc j) l h =
-    let rest = packed (λ j. f (suc j)) n in
-    let e : suc j * 8 ≡ 8 + j * 8 = omega arith in
-    let d : (f 0 + rest * 256) / 2 ^ 8 ≡ rest = omega (arith, h 0 (omega arith)) in
-    ap (λ (z : ℕ). (f 0 + rest * 256) / 2 ^ z % 256) e
-    ∙ ap (λ (z : ℕ). z % 256) (sym (shr-shr (f 0 + rest * 256) 8 (j * 8)))
-    ∙ ap (λ (z : ℕ). z / 2 ^ (j * 8) % 256) d
-    ∙ packed_byte (λ j. f (suc j)) n j (omega arith) (λ j l. h (suc j) (omega arith))
+-- the bytes of a word of eight
+word-bytes : (f : ℕ → ℕ) → Bytes f 8 → to_le_bytes w64 (packed f 8) ≡ list_to f 8
+unfolding packed cat_to
+word-bytes f h = le_bytes_8 (list_to f 8) (packed f 8) refl (λ i. at i (cases_lt i 8)) (omega arith)
+  where
+    at : (i : ℕ) → (i < 8) ⊎ (8 ≤ i) → get_or (list_to f 8) i 0 < 256
+    at i (inl l) = let e : get_or (list_to f 8) i 0 ≡ f i = list_at f 8 i [] l in rw e (h i l)
+    at i (inr l) = rw (get_or_past (list_to f 8) i 0 l) (lit< tt)
 
 -- q more in each byte
 packed_more : (f g : ℕ → ℕ) (q n : ℕ) → ((j : ℕ) → j < n → q + f j ≡ g j) → packed f n + q * packed (λ j. 1) n ≡ packed g n
@@ -77,8 +78,9 @@ module _ (v k : ℕ) where
     pub counts-fit : w < 2 ^ 64
     counts-fit = rw e (packed_lt (λ j. up_to v (k + j)) 8 small)
 
-    pub counts-byte : (j : ℕ) → j < 8 → byte w j ≡ up_to v (k + j)
-    counts-byte j lj = rw e (packed_byte (λ j. up_to v (k + j)) 8 j lj small)
+    pub counts-bytes : to_le_bytes w64 w ≡ list_to (λ j. up_to v (k + j)) 8
+    counts-bytes = ap (to_le_bytes w64) e ∙ word-bytes _ small
 
     pub counts-last : w / 2 ^ 56 ≡ sum_to (bit v) (k + 8)
-    counts-last = omega (arith, counts-fit, counts-byte 7 (omega arith), ap (sum_to (bit v)) (add-suc k 7))
+    unfolding cat_to
+    counts-last = omega (arith, counts-fit, ap (λ (b : List ℕ). get_or b 7 0) counts-bytes, ap (sum_to (bit v)) (add-suc k 7))

@@ -1,106 +1,78 @@
 -- Rows laid for masks, and that what is read off them are the definitions. Assumes nothing.
 use mathlib.Core.Path.{◌≡◌, refl, sym, ap, ap₂, ◌∙◌}
 use mathlib.Core.Bool.{Bool, true, false}
-use mathlib.Core.List.{List}
-use Prim.Native.Nat.{ℕ, zero, suc, ◌+◌, ◌-◌, ◌*◌, ◌^◌, ◌<◌, ◌≤◌, min}
+use mathlib.Core.List.{List, [], ◌∷◌, ◌++◌, append_assoc, append-nil}
+use Prim.Native.Nat.{ℕ, zero, suc, ◌+◌, ◌-◌, ◌*◌, ◌^◌, ◌<◌, ◌≤◌, min, max}
 use native.Mathlib.Omega.{arith}
 use native.Mathlib.Numerals.{add-one}
-use native.Mathlib.Nat.{add-zero, add-suc}
+use native.Mathlib.Nat.{add-zero, zero-add, add-suc}
 use lib.Dec.{eqb}
-use lib.ListN.{get_or, set, length, length-set, drop, length-drop}
-use lib.Seq.{get_or-set_same, get_or-set_other, get_or-drop, drop-set-add}
-use borrow.Author.Count.{below_none, below_more}
+use lib.ListN.{get_or, set, length, take}
+use Rattle.std.proofs.lemmas.List.{take_more_set}
+use Rattle.std.specs.List.{fold, zip}
+use Rattle.std.proofs.lemmas.Slice.Zip.{length-zip, get_or-zip}
 use Rattle.robinx.specs.Season.{most_slots}
-use Rattle.robinx.specs.Sums.{sum_to, max_to, only, dist}
+use Rattle.robinx.specs.Sums.{sum_to, max_to, cat_to, list_to, only, dist}
 use Rattle.robinx.specs.Groups.{bit, has}
 use Rattle.robinx.specs.Deviations.{worst, outside, in_run}
 use Rattle.robinx.proofs.Sums.{sum-split}
 use Rattle.robinx.proofs.Ext.{sum-ext, max-ext}
-use Rattle.rows.specs.Rows.{Holds, marked, laid, HoldsAt, up_to, laid_at, farthest_to, runs_to}
+use Rattle.robinx.proofs.Lengths.{list_at}
+use Rattle.rows.specs.Rows.{Holds, marked, up_to, farthest_to, runs_to, off_in_runs}
 use Rattle.robinx.proofs.Bits.{at_bits}
 use Rattle.masks.proofs.Width.{worst-stop}
 
--- one place more
-pub laid_more : (row : List ℕ) (f : ℕ → ℕ) (k : ℕ) {r : List ℕ} {q : ℕ} → r ≡ laid row f k → q ≡ f k → set r k q ≡ laid row f (k + 1)
-unfolding laid
-laid_more row f k p e = rw (add-one, ← p, ← e)
+-- what a row that is written out holds
+pub list-holds : (f : ℕ → ℕ) (n : ℕ) → Holds (list_to f n) f n
+list-holds f n k l = ap (λ (r : List ℕ). get_or r k 0) (sym (append-nil (list_to f n))) ∙ list_at f n k [] l
 
-pub laid-length : (row : List ℕ) (f : ℕ → ℕ) (k : ℕ) → length (laid row f k) ≡ length row
-unfolding laid
-laid-length row f zero = refl
-laid-length row f (suc k) = simp length-set (laid-length row f k)
+-- one place more is written
+pub list-more : (row : List ℕ) (f : ℕ → ℕ) (k : ℕ) {v : ℕ} → k < length row → take k row ≡ list_to f k → v ≡ f k
+    → take (k + 1) (set row k v) ≡ list_to f (k + 1)
+unfolding cat_to
+list-more row f k {v} l p e = take_more_set row k v l ∙ rw (p, e, add-one) refl
 
-holds_more : (row : List ℕ) (f : ℕ → ℕ) (k : ℕ) → k < length row → Holds row f k → Holds (set row k (f k)) f (k + 1)
-holds_more row f k l h =
-    below_more (λ i. get_or (set row k (f k)) i 0 ≡ f i) k
-    (λ i li. get_or-set_other row k i (f k) 0 (λ e. omega arith) ∙ h i li)
-    (get_or-set_same row k (f k) 0 l)
-
--- what a laid row holds
-pub laid-holds : (row : List ℕ) (f : ℕ → ℕ) (k : ℕ) → k ≤ length row → Holds (laid row f k) f k
-unfolding laid
-laid-holds row f zero l = below_none (λ i. get_or row i 0 ≡ f i)
-laid-holds row f (suc k) l =
-    rw (← add-one) (holds_more (laid row f k) f k (omega (arith, laid-length row f k)) (laid-holds row f k (omega arith)))
+-- it goes on from place k with another that is written out
+pub list-join : (f g : ℕ → ℕ) (k n : ℕ) → ((j : ℕ) → j < n → g j ≡ f (k + j)) → list_to f k ++ list_to g n ≡ list_to f (k + n)
+unfolding cat_to
+list-join f g k zero h = rw add-zero (append-nil (list_to f k))
+list-join f g k (suc n) h =
+    rw (add-suc k n, ← h n (omega arith), ← list-join f g k n (λ j l. h j (omega arith))) (sym (append_assoc (list_to f k) (list_to g n) _))
 
 -- the increases of a row of counts are the counts of the runs
 pub runs_of : (row : List ℕ) (v w low high n : ℕ) → n ≤ most_slots + 1 - w → Holds row (sum_to (bit v)) (most_slots + 1)
-    → runs_to row w low high n ≡ sum_to (λ a. outside low high (in_run (bit v) w a)) n
+    → runs_to row w low high n ≡ off_in_runs (bit v) w low high n
 unfolding runs_to in_run
 runs_of row v w low high n l h =
     sum-ext n (λ k lk.
     ap (outside low high)
     (ap₂ ◌-◌ (h (k + w) (omega arith)) (h k (omega arith)) ∙ omega (arith, sum-split (bit v) k w)))
 
--- A row among many: what it holds, and what stands elsewhere.
-module _ (rows : List ℕ) (a : ℕ) (f : ℕ → ℕ) where
-  pub laid_at-more : (k : ℕ) {r : List ℕ} {q : ℕ} → r ≡ laid_at rows a f k → q ≡ f k → set r (a + k) q ≡ laid_at rows a f (k + 1)
-  unfolding laid_at
-  laid_at-more k p e = rw (add-one, ← p, ← e)
-
-  pub laid_at-length : (k : ℕ) → length (laid_at rows a f k) ≡ length rows
-  unfolding laid_at
-  laid_at-length zero = refl
-  laid_at-length (suc k) = simp length-set (laid_at-length k)
-
-  laid_at-drop : (k : ℕ) → drop a (laid_at rows a f k) ≡ laid (drop a rows) f k
-  unfolding laid_at laid
-  laid_at-drop zero = refl
-  laid_at-drop (suc k) = drop-set-add a (laid_at rows a f k) k (f k) ∙ ap (λ (l : List ℕ). set l k (f k)) (laid_at-drop k)
-
-  pub laid_at-holds : (n : ℕ) → a + n ≤ length rows → HoldsAt (laid_at rows a f n) a f n
-  laid_at-holds n l k lk =
-      sym (get_or-drop a (laid_at rows a f n) k 0) ∙ ap (λ (r : List ℕ). get_or r k 0) (laid_at-drop n)
-      ∙ laid-holds (drop a rows) f n (simp length-drop (omega arith)) k lk
-
-  pub laid_at-other : (n i : ℕ) → ((k : ℕ) → k < n → i ≡ a + k → ⊥) → get_or (laid_at rows a f n) i 0 ≡ get_or rows i 0
-  unfolding laid_at
-  laid_at-other zero i h = refl
-  laid_at-other (suc n) i h =
-      get_or-set_other (laid_at rows a f n) (a + n) i (f n) 0 (h n (omega arith)) ∙ laid_at-other n i (λ k l. h k (omega arith))
-
-pub laid_at-ext : (rows : List ℕ) (a : ℕ) {f g : ℕ → ℕ} (n : ℕ) → ((k : ℕ) → k < n → f k ≡ g k) → laid_at rows a f n ≡ laid_at rows a g n
-unfolding laid_at
-laid_at-ext rows a zero h = refl
-laid_at-ext rows a (suc n) h = ap₂ (λ (l : List ℕ) (v : ℕ). set l (a + n) v) (laid_at-ext rows a n (λ k l. h k (omega arith))) (h n (omega arith))
-
--- a row of counts, behind a 0: the counts before each place
-pub counts-before : (rows : List ℕ) (v : ℕ) → most_slots + 1 ≤ length rows → get_or rows 0 0 ≡ 0
-    → Holds (laid_at rows 1 (up_to v) most_slots) (sum_to (bit v)) (most_slots + 1)
+-- a 0 and then a row of counts: the counts before each place
+pub counts-before : (v : ℕ) {row rest : List ℕ} → row ≡ 0 ∷ rest → Holds rest (up_to v) most_slots → Holds row (sum_to (bit v)) (most_slots + 1)
 unfolding sum_to
-counts-before rows v l e zero lk = laid_at-other rows 1 (up_to v) most_slots 0 (λ k lk e. omega arith) ∙ e
-counts-before rows v l e (suc k) lk =
-    let i : suc k ≡ 1 + k = omega arith in
-    ap (λ (i : ℕ). get_or (laid_at rows 1 (up_to v) most_slots) i 0) i ∙ laid_at-holds rows 1 (up_to v) most_slots (omega arith) k (omega arith)
+counts-before v e h zero l = rw e refl
+counts-before v e h (suc k) l = rw e (h k (omega arith))
 
--- a row that is laid in two parts
-pub laid_at-on : (rows : List ℕ) (a k : ℕ) (f g : ℕ → ℕ) (n : ℕ) → ((j : ℕ) → j < n → g j ≡ f (k + j))
-    → laid_at (laid_at rows a f k) (a + k) g n ≡ laid_at rows a f (k + n)
-unfolding laid_at
-laid_at-on rows a k f g zero h = ap (laid_at rows a f) (sym (add-zero k))
-laid_at-on rows a k f g (suc n) h =
-    let e : a + k + n ≡ a + (k + n) = omega arith in
-    rw (add-suc k n, h n (omega arith), laid_at-on rows a k f g n (λ j l. h j (omega arith)), e) refl
+-- a fold over a list, by steps of a definition that grows at its end
+fold-to : {X : Type 0} (F : ℕ → ℕ) (step : ℕ → X → ℕ) (d : X) (xs : List X) (i n : ℕ) → i + length xs ≡ n
+    → ((k : ℕ) → k < length xs → step (F (i + k)) (get_or xs k d) ≡ F (suc (i + k))) → fold step (F i) xs ≡ F n
+fold-to F step d [] i n e s = ap F (omega arith)
+fold-to F step d (x ∷ xs) i n e s =
+    let first : step (F i) x ≡ F (suc i) = rw add-zero at (s 0 (omega arith)) in
+    ap (λ (v : ℕ). fold step v xs) first
+    ∙ fold-to F step d xs (suc i) n (omega arith) (λ k l. let e : i + suc k ≡ suc i + k = omega arith in rw e at (s (suc k) (omega arith)))
+
+-- the largest distance, of three rows that are gone through together
+pub farthest-fold : (e a b : List ℕ) → length e ≡ most_slots → length a ≡ most_slots → length b ≡ most_slots
+    → fold (λ far p. max far (min p.1 (dist p.0.0 p.0.1))) 0 (zip (zip a b) e) ≡ farthest_to e (λ k. get_or a k 0) (λ k. get_or b k 0) most_slots
+unfolding farthest_to max_to
+farthest-fold e a b le la lb =
+    let m : length (zip a b) ≡ most_slots = omega (arith, length-zip a b) in
+    let n : length (zip (zip a b) e) ≡ most_slots = omega (arith, length-zip (zip a b) e) in
+    let D : ℕ → ℕ = λ k. min (get_or e k 0) (dist (get_or a k 0) (get_or b k 0)) in
+    fold-to (max_to D) (λ far p. max far (min p.1 (dist p.0.0 p.0.1))) ((0, 0), 0) (zip (zip a b) e) 0 most_slots (omega arith)
+    (λ k l. rw (zero-add k, get_or-zip (zip a b) e k _ (omega arith) (omega arith), get_or-zip a b k _ (omega arith) (omega arith)) refl)
 
 -- the largest distance of equal counts, and over the slots of a mask
 pub farthest-ext : (e : List ℕ) {f f' g g' : ℕ → ℕ} (n : ℕ) → ((k : ℕ) → k < n → f k ≡ f' k) → ((k : ℕ) → k < n → g k ≡ g' k)

@@ -1,9 +1,8 @@
 -- Rows of bytes, a place for each slot, and what is read off them.
-use Rattle.std.specs.Prelude.{List, ◌≡◌, ℕ, zero, suc, ◌+◌, ◌-◌, ◌*◌, ◌/◌, ◌%◌, ◌^◌, ◌<◌, min, get_or, set}
-use Rattle.robinx.specs.Season.{most_teams, most_slots}
+use Rattle.std.specs.Prelude.{List, ◌≡◌, ℕ, zero, suc, ◌+◌, ◌-◌, ◌*◌, ◌<◌, min, get_or}
 use Rattle.robinx.specs.Sums.{sum_to, max_to, dist}
 use Rattle.robinx.specs.Groups.{bit}
-use Rattle.robinx.specs.Deviations.{outside}
+use Rattle.robinx.specs.Deviations.{outside, in_run}
 
 -- the row holds f at each place below n
 abbrev pub Holds : List ℕ → (ℕ → ℕ) → ℕ → Type 0
@@ -13,36 +12,14 @@ Holds row f n = (k : ℕ) → k < n → get_or row k 0 ≡ f k
 abbrev pub marked : ℕ → ℕ → ℕ
 marked s k = bit s k * 255
 
--- the row with f written at each place below n
-unfoldable pub laid : List ℕ → (ℕ → ℕ) → ℕ → List ℕ
-laid row f zero = row
-laid row f (suc k) = set (laid row f k) k (f k)
-
--- Many rows in one table, which has places for a row of each team: the row from place a on, and the same of it
-abbrev pub places : ℕ
-places = most_teams * most_slots
-
-abbrev pub row_at : List ℕ → ℕ → ℕ → ℕ
-row_at rows a k = get_or rows (a + k) 0
-
-abbrev pub HoldsAt : List ℕ → ℕ → (ℕ → ℕ) → ℕ → Type 0
-HoldsAt rows a f n = (k : ℕ) → k < n → row_at rows a k ≡ f k
-
-unfoldable pub laid_at : List ℕ → ℕ → (ℕ → ℕ) → ℕ → List ℕ
-laid_at rows a f zero = rows
-laid_at rows a f (suc k) = set (laid_at rows a f k) (a + k) (f k)
-
 -- how many of the slots up to k the mask has
 abbrev pub up_to : ℕ → ℕ → ℕ
 up_to v k = sum_to (bit v) (suc k)
 
--- Rows in words, a byte for a place: the word of f 0, .., f (n − 1), the first lowest, and what byte j of a word is
+-- a row in one word, a byte for a place: the word of f 0, .., f (n − 1), the first lowest
 unfoldable pub packed : (ℕ → ℕ) → ℕ → ℕ
 packed f zero = 0
 packed f (suc n) = f 0 + packed (λ j. f (suc j)) n * 256
-
-abbrev pub byte : ℕ → ℕ → ℕ
-byte w j = w / 2 ^ (j * 8) % 256
 
 -- the largest distance of f and g at the first n places, each counted up to what the row e has there
 unfoldable pub farthest_to : List ℕ → (ℕ → ℕ) → (ℕ → ℕ) → ℕ → ℕ
@@ -51,3 +28,7 @@ farthest_to e f g n = max_to (λ k. min (get_or e k 0) (dist (f k) (g k))) n
 -- how far the row's increases over w places are outside low .. high, summed over the first n places
 unfoldable pub runs_to : List ℕ → ℕ → ℕ → ℕ → ℕ → ℕ
 runs_to row w low high n = sum_to (λ k. outside low high (get_or row (k + w) 0 - get_or row k 0)) n
+
+-- how far the sums of f in the runs of w places are outside low .. high, summed over the first n runs
+abbrev pub off_in_runs : (ℕ → ℕ) → ℕ → ℕ → ℕ → ℕ → ℕ
+off_in_runs f w low high n = sum_to (λ a. outside low high (in_run f w a)) n

@@ -2,25 +2,24 @@
 
 #![tactic(auto)]
 
-ghost use Rattle.std.specs.Prelude.{◌≡◌, ◌+◌, ◌-◌, ◌<◌, ◌≤◌, min, max};
+ghost use Rattle.std.specs.Prelude.{◌≡◌, ◌+◌, ◌-◌, ◌<◌, ◌≤◌, length, slice_index};
 ghost use Rattle.robinx.specs.Season.{most_slots};
-ghost use Rattle.robinx.specs.Sums.{dist};
+ghost use Rattle.robinx.specs.Sums.{list_to};
+ghost use Rattle.robinx.specs.Groups.{bit};
 ghost use Rattle.robinx.specs.Deviations.{outside};
-ghost use Rattle.rows.specs.Rows.{places, marked, row_at, up_to, laid, laid_at, packed, byte, farthest_to, runs_to};
+ghost use Rattle.rows.specs.Rows.{marked, up_to, packed, farthest_to, runs_to, off_in_runs};
 
 use robinx::{Season, Slots};
 
-// A table of rows has a place for each slot of each team.
-pub const PLACES: usize = Season::TEAMS * Season::SLOTS;
+// A row has a place for each slot.
+pub type Row = [u8; Season::SLOTS];
 
-// A row of the mask: 255 for each of its slots, 0 for the others.
-pub fn spread(s: Slots, row: &mut [u8; Season::SLOTS])
-    ensures { row.new ≡ laid row.old (marked s) most_slots }
+// The row of the mask's marks: 255 for each of its slots, 0 for the others.
+pub fn spread(s: Slots, row: &mut Row)
+    ensures { row.new ≡ list_to (marked s) most_slots }
 {
-    let mut k = 0;
-    while k < Season::SLOTS {
-        row[k] = masks::bit_at(s, k) * 255;
-        k += 1;
+    for (k, place) in row.iter_mut().enumerate() {
+        *place = masks::bit_at(s, k) * 255;
     }
 }
 
@@ -37,89 +36,64 @@ fn eight(b: u64) -> u64
     four + (four << 32)
 }
 
-// The bytes of a word, laid from place a on: the compiler makes one store of them.
-fn lay_eight(w: u64, rows: &mut [u8; PLACES], a: usize)
-    requires { a + 8 ≤ places }
-    ensures { rows.new ≡ laid_at rows.old a (byte w) 8 }
+// `copy_from_slice` of a word's bytes, which the compiler makes one store. std's takes half as much again, as it asks whether the two overlap.
+fn copy_eight(bytes: [u8; 8], part: &mut [u8])
+    requires { length part.old ≡ 8 }
+    ensures { part.new ≡ bytes }
 {
-    let mut j: usize = 0;
-    while j < 8 {
-        rows[a + j] = ((w >> (j * 8)) % 256) as u8;
-        j += 1;
+    for (j, place) in part.iter_mut().enumerate() {
+        *place = bytes[j];
     }
 }
 
-// A row among many, from place a on: how many slots of v there are up to each slot. Eight at a time, with the count before them added to each.
-pub fn lay_at(v: Slots, rows: &mut [u8; PLACES], a: usize)
-    requires { a + most_slots ≤ places }
-    ensures { rows.new ≡ laid_at rows.old a (up_to v) most_slots }
+// The row of the mask's counts: how many slots of v there are up to each slot. Eight at a time, with the count before them added to each.
+pub fn lay(v: Slots, row: &mut [u8])
+    requires { length row.old ≡ most_slots }
+    ensures { row.new ≡ list_to (up_to v) most_slots }
 {
-    let mut q: u64 = 0;
+    let mut before: u64 = 0;
     let mut rest = v;
-    let mut k: usize = 0;
-    while k < Season::SLOTS {
-        let w = eight(masks::first_eight(rest)) + q * 0x0101010101010101;
-        lay_eight(w, rows, a + k);
-        q = w >> 56;
+    for byte in 0..Season::SLOTS / 8 {
+        let counts = eight(masks::first_eight(rest)) + before * 0x0101010101010101;
+        copy_eight(counts.to_le_bytes(), &mut row[8 * byte..8 * byte + 8]);
+        before = counts >> 56;
         rest = masks::past_eight(rest);
-        k += 8;
     }
 }
 
-fn larger(x: u8, y: u8) -> u8
-    ensures { result ≡ max x y }
+// The largest distance of two rows at the slots that the row of marks has. The smaller of mark and distance takes no branch.
+pub fn farthest(a: &Row, b: &Row, marks: &Row) -> u8
+    ensures { result ≡ farthest_to marks.now (slice_index a.now) (slice_index b.now) most_slots }
 {
-    if x < y { y } else { x }
+    a.iter().zip(b).zip(marks).fold(0, |far, ((&x, &y), &mark)| far.max(mark.min(x.abs_diff(y))))
 }
 
-fn smaller(x: u8, y: u8) -> u8
-    ensures { result ≡ min x y }
+fn outside(low: u8, high: u8, count: u8) -> u8
+    ensures { result ≡ outside low high count }
 {
-    if y < x { y } else { x }
-}
-
-fn less(x: u8, y: u8) -> u8
-    ensures { result ≡ x - y }
-{
-    if y < x { x - y } else { 0 }
-}
-
-fn gap(x: u8, y: u8) -> u8
-    ensures { result ≡ dist x y }
-{
-    if x < y { y - x } else { x - y }
-}
-
-// The largest distance of the rows from places a and b on at the slots that the row e marks. The smaller of mark and distance takes no branch.
-pub fn farthest(rows: &[u8; PLACES], a: usize, b: usize, e: &[u8; Season::SLOTS]) -> u8
-    requires { (a + most_slots ≤ places) × (b + most_slots ≤ places) }
-    ensures { result ≡ farthest_to e.now (row_at rows.now a) (row_at rows.now b) most_slots }
-{
-    let mut m: u8 = 0;
-    let mut k = 0;
-    while k < Season::SLOTS {
-        m = larger(m, smaller(e[k], gap(rows[a + k], rows[b + k])));
-        k += 1;
-    }
-    m
-}
-
-fn off(low: u8, high: u8, c: u8) -> u8
-    ensures { result ≡ outside low high c }
-{
-    larger(less(low, c), less(c, high))
+    low.saturating_sub(count).max(count.saturating_sub(high))
 }
 
 // How far the counts of the first n runs of w slots are outside low .. high, summed. Place k of the row has the count before slot k.
-pub fn runs(row: &[u8; PLACES], w: usize, low: u8, high: u8, n: usize) -> u32
-    requires { n ≤ most_slots + 1 - w }
+pub fn runs(row: &[u8], w: usize, low: u8, high: u8, n: usize) -> u32
+    requires long { most_slots + 1 ≤ length row.now }
+    requires whole { n ≤ most_slots + 1 - w }
     ensures { result ≡ runs_to row.now w low high n }
 {
-    let mut c: u32 = 0;
-    let mut k = 0;
-    while k < n {
-        c += off(low, high, less(row[k + w], row[k])) as u32;
-        k += 1;
+    let mut off: u32 = 0;
+    // by index: a zip of the row and its part from w on takes a quarter more instructions
+    for k in 0..n {
+        off += u32::from(outside(low, high, row[k + w].saturating_sub(row[k])));
     }
-    c
+    off
+}
+
+// The same of the mask's slots: how far their counts in the first n runs of w slots are outside low .. high, summed.
+pub fn mask_runs(v: Slots, w: usize, low: u8, high: u8, n: usize) -> u32
+    requires { n ≤ most_slots + 1 - w }
+    ensures { result ≡ off_in_runs (bit v) w low high n }
+{
+    let mut row = [0; Season::SLOTS + 1];
+    lay(v, &mut row[1..]);
+    runs(&row, w, low, high, n)
 }

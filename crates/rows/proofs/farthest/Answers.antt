@@ -1,24 +1,19 @@
 -- `rows::farthest` meets its contract. Assumes nothing.
-use mathlib.Core.Path.{◌≡◌, refl}
-use native.Mathlib.Omega.{arith}
-use native.Mathlib.Numerals.{add-one}
-use Rattle.robinx.specs.Season.{most_slots}
-use Rattle.robinx.specs.Sums.{max_to}
-use Rattle.rows.specs.Rows.{farthest_to}
+use mathlib.Core.Path.{◌∙◌}
+use Prim.Native.Nat.{max, min}
 use borrow.Author.Rules.{rules}
+use Rattle.robinx.specs.Sums.{dist}
+use Rattle.std.proofs.lemmas.Iterator.{YieldsList-from_slice, YieldsList-from_zip}
+use Rattle.std.proofs.lemmas.Iterator.Consumers.{YieldsList-at, fold_from_yields_List}
+use Rattle.rows.proofs.Rows.{farthest-fold}
 use Rattle.rows.proofs.farthest.Goals as goal
-
-pub loop-k-init : goal.loop-k-init
-unfolding farthest_to max_to
-loop-k-init c = (search rules, refl)
-
-pub loop-k-preserved : goal.loop-k-preserved
-unfolding farthest_to max_to
-loop-k-preserved c =
-    let l = c.loop-k in
-    (search rules, rw (add-one, ← l.invariant.1, ← c.gap.ensures, ← c.smaller.ensures) c.larger-m.ensures)
 
 pub returns : goal.returns
 returns c =
-    let l = c.loop-k in
-    let e : l.k ≡ most_slots = omega arith in rw (← e) l.invariant.1
+    let a = c.args in
+    fold_from_yields_List _ (λ far p. max far (min p.1 (dist p.0.0 p.0.1))) 0 c.fold.result c.fold.ensures.ran
+    (YieldsList-from_zip
+    (YieldsList-at c.zip-2.ensures.first (YieldsList-from_zip (YieldsList-from_slice a.a.now cc) (YieldsList-from_slice a.b.now cc)))
+    (YieldsList-from_slice a.marks.now cc))
+    (λ v x b q k. search rules)
+    ∙ farthest-fold a.marks.now a.a.now a.b.now (search rules) (search rules) (search rules)
