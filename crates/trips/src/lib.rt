@@ -2,14 +2,15 @@
 
 #![tactic(auto)]
 
-ghost use Rattle.std.specs.Prelude.{◌≡◌, true, ◌&&◌, ◌<◌, ◌≤◌, leb};
+ghost use Rattle.std.specs.Prelude.{◌≡◌, ◌&&◌, ◌<◌, ◌≤◌, leb};
 ghost use Rattle.robinx.specs.Season.{most_slots};
 ghost use Rattle.robinx.specs.Groups.{bit, has, size};
 ghost use Rattle.robinx.specs.Timetable.{last_was};
+ghost use Rattle.robinx.specs.Kinds.{kind_of};
 ghost use Rattle.robinx.specs.Deviations.{over, deviations};
 ghost use Rattle.tables.specs.Tables.{x_of};
 ghost use Rattle.opponents.specs.Fillable.{Fillable, TiedGroup};
-ghost use Rattle.trips.specs.TripFigures.{is_trip_kind, of_trip, of_team, of_run, of_masks, trip_figure};
+ghost use Rattle.trips.specs.TripFigures.{IsTripKind, of_trip, of_team, of_run, of_masks, trip_figure};
 
 use groups::fill::fill_each;
 use masks::{common, count_in, first, front, is_some, last_in, trip_from, trip_starts, without};
@@ -27,7 +28,7 @@ fn ends_in(run: Slots, s: Slots) -> bool
 
 // What a trip adds to its team's figure: 1 in BR4, how far its games against T2 are outside kmin .. kmax in CA5.
 fn trip_figure(c: Constraint, wanted: Slots, trip: Slots) -> u32
-    ensures { result ≡ of_trip c (over most_slots trip (bit wanted)) }
+    ensures { result ≡ of_trip (kind_of c.kind) c (over most_slots trip (bit wanted)) }
 {
     match Kind::of(c.kind) {
         Kind::Br4 => 1,
@@ -53,6 +54,7 @@ fn sum_trips(c: Constraint, away: Slots, home: Slots, wanted: Slots) -> u32
 {
     let mut v: u32 = 0;
     let mut rest = common(trip_starts(away, home), c.s);
+    // from one set bit to the next, with no index: a chain over a mask's slots needs an iterator that only this loop would use
     while is_some(rest) {
         let a = first(rest);
         rest = without(rest, a);
@@ -63,7 +65,7 @@ fn sum_trips(c: Constraint, away: Slots, home: Slots, wanted: Slots) -> u32
 
 // The deviation of a team whose trips make v in all: how many fewer than kmin there are in BR4, the sum itself in CA5.
 fn off_trips(c: Constraint, v: u32) -> u32
-    ensures { result ≡ of_team c v }
+    ensures { result ≡ of_team (kind_of c.kind) c v }
 {
     match Kind::of(c.kind) {
         Kind::Br4 => u32::from(c.kmin).saturating_sub(v),
@@ -72,12 +74,7 @@ fn off_trips(c: Constraint, v: u32) -> u32
 }
 
 // The deviation of a team.
-fn team_figure(
-    c: Constraint,
-    z: Season,
-    tables: &Tables,
-    t: usize,
-) -> u32
+fn team_figure(c: Constraint, z: Season, tables: &Tables, t: usize) -> u32
     requires { (z.slots ≤ most_slots) × (t < z.teams) × TiedGroup z.teams c.t2 tables.now }
     ensures { result ≡ trip_figure z.teams z.slots c (x_of tables.now.meets) t }
 {
@@ -87,13 +84,8 @@ fn team_figure(
 }
 
 // The deviations of CA5 and of BR4, from one team of the group to the next.
-pub fn fill_trips(
-    c: Constraint,
-    z: Season,
-    tables: &Tables,
-    out: &mut [u32],
-)
-    requires { Fillable z.teams z.slots c tables.now out.old × (is_trip_kind c.kind ≡ true) }
+pub fn fill_trips(c: Constraint, z: Season, tables: &Tables, out: &mut [u32])
+    requires { Fillable z.teams z.slots c tables.now out.old × IsTripKind (kind_of c.kind) }
     ensures { out.new ≡ deviations z.teams z.slots c (x_of tables.now.meets) }
 {
     fill_each(c.t1, |t| team_figure(c, z, tables, t), out);

@@ -1,47 +1,24 @@
--- `trips::fill_trips` meets its contract: before each turn the deviations of the teams passed are in. Assumes nothing.
-use mathlib.Core.Path.{◌≡◌, sym, ◌∙◌}
-use Prim.Native.Nat.{◌<◌}
-use lib.ListN.{length}
-use borrow.Author.Rules.{rules}
-use Rattle.robinx.specs.Season.{most_teams}
-use Rattle.robinx.specs.Groups.{size}
+-- `trips::fill_trips` meets its contract. Assumes nothing.
+use Rattle.std.proofs.Common.{rules, ◌∙◌, ◌<◌}
+use Rattle.robinx.proofs.SetBits.{in-below}
+use Rattle.tables.specs.Tables.{x_of}
 use Rattle.opponents.proofs.Fillable.{limits, given-t2}
-use Rattle.groups.proofs.MemberWalk.{each_start, each-place, each-few, each_turn, each-end}
 use Rattle.trips.proofs.TeamTrips.{trip-places, trip-deviations}
 use Rattle.trips.proofs.fill_trips.Goals as goal
-use Rattle.trips.proofs.fill_trips.Goals.{After-team_figure, Start}
 
-places : (c : Start) → length c.args.out.now ≡ size c.args.n c.args.c.t1
-places c = c.requires.0.places ∙ trip-places c.args.n c.args.p c.args.c c.requires.1
+pub fill_each-requires-clause-room : goal.fill_each-requires-clause-room
+fill_each-requires-clause-room c = trip-places c.requires.1 c.requires.0
 
-pub loop-m-init : goal.loop-m-init
-loop-m-init c = each_start c.of-m.ensures c.requires.0.teams (limits c.requires.0).t1 (places (goal.at.loop-m-init c).Start)
-
-pub team_figure-requires : goal.team_figure-requires
-team_figure-requires c =
-    let r = c.requires.0 in (r.slots, (c.next-m.ensures _ _ c.loop-m.invariant.ahead).room, given-t2 r)
-
-few : (c : After-team_figure) → c.loop-m.at < most_teams
-few c = each-few c.loop-m.invariant c.next-m.ensures
-
-pub offset_bounds-out-at : goal.offset_bounds-out-at
-offset_bounds-out-at c = let r = few (goal.at.offset_bounds-out-at c).After-team_figure in search rules
-
-pub bounds-out-at : goal.bounds-out-at
-bounds-out-at c = each-place c.loop-m.invariant c.next-m.ensures
-
-pub overflow_add-at : goal.overflow_add-at
-overflow_add-at c = let r = few (goal.at.overflow_add-at c).After-team_figure in search rules
-
-pub loop-m-smaller : goal.loop-m-smaller
-loop-m-smaller c = let x = c.next-m.ensures _ _ c.loop-m.invariant.ahead in search rules
-
-pub loop-m-preserved : goal.loop-m-preserved
-loop-m-preserved c = each_turn c.loop-m.invariant c.next-m.ensures c.team_figure.ensures
-
-pub shape_of-out : goal.shape_of-out
-shape_of-out c = c.loop-m.invariant.filled.filled.long ∙ sym (places (goal.at.shape_of-out c).Start)
+pub fill_each-requires-clause-callable : goal.fill_each-requires-clause-callable
+fill_each-requires-clause-callable c =
+    λ t l h.
+    let r = c.requires.0 in
+    let t2 = given-t2 r in
+    let team : t < c.args.z.teams = in-below c.args.c.t1 _ (limits r).t1 t h in search rules
 
 pub returns : goal.returns
 returns c =
-    each-end c.loop-m.invariant (search rules) ∙ trip-deviations c.args.n c.args.p c.args.c _ c.requires.1
+    let a = c.args in
+    let r = c.requires.0 in
+    c.fill_each.ensures _ _ r.teams (limits r).t1 (λ t l h v p. search rules)
+    ∙ trip-deviations a.z.teams a.z.slots a.c (x_of a.tables.now.meets) c.requires.1
