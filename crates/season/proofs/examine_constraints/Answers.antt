@@ -8,10 +8,12 @@ use Rattle.season.proofs.examine_constraints.Goals as goal
 use Rattle.season.proofs.examine_constraints.Goals.{After-entries_of-entries}
 
 -- the constraint that was read is passed
-passed : (c : After-entries_of-entries) → Kept (decode c.args.season.bytes.now) (c.loop-c.c-iterator.at + 1) (c.loop-c.entries + c.entries_of-entries.result)
+passed : (c : After-entries_of-entries)
+    → Kept (decode c.args.season.bytes.now) (c.loop-c.c-iterator.at + 1) (c.loop-c.entries + c.entries_of-entries.result)
 passed c =
+    let v = c.args.season in
     let here = rw c.loop-c.invariant.same at c.in-Some.ensures.steps.constraint in
-    kept-more c.args.season.bytes.now c.args.season.sizes c.args.season.measured c.loop-c.invariant.kept here c.if-not-obeys.ensures c.entries_of-entries.ensures
+    kept-more v.bytes.now v.sizes v.measured c.loop-c.invariant.kept here c.if-not-obeys.ensures c.entries_of-entries.ensures
 
 pub loop-c-init : goal.loop-c-init
 loop-c-init c =
@@ -24,13 +26,18 @@ obeys-requires c = omega (arith, in-range c.args.season.sizes c.requires)
 
 pub returns-then-not-obeys : goal.returns-then-not-obeys
 returns-then-not-obeys c =
-    broken c.args.season.bytes.now c.args.season.sizes c.args.season.measured c.loop-c.c-iterator.at (rw c.loop-c.invariant.sizes at c.in-Some.ensures.steps.below)
-    (rw c.loop-c.invariant.same at c.in-Some.ensures.steps.constraint) c.if-not-obeys.ensures
+    let v = c.args.season in
+    let old = c.loop-c.invariant in
+    let step = c.in-Some.ensures.steps in
+    broken v.bytes.now v.sizes v.measured c.loop-c.c-iterator.at (rw old.sizes at step.below) (rw old.same at step.constraint)
+    c.if-not-obeys.ensures
 
 pub overflow_add-entries : goal.overflow_add-entries
 overflow_add-entries c =
-    let range = in-range c.args.season.sizes c.requires in
-    record { fits = omega (arith, few c.args.season.bytes.now c.args.season.sizes c.args.season.measured range (passed c), range.constraints, rw c.loop-c.invariant.sizes at c.in-Some.ensures.steps.below) }
+    let v = c.args.season in
+    let range = in-range v.sizes c.requires in
+    let below = rw c.loop-c.invariant.sizes at c.in-Some.ensures.steps.below in
+    record { fits = omega (arith, few v.bytes.now v.sizes v.measured range (passed c), range.constraints, below) }
 
 pub loop-c-preserved : goal.loop-c-preserved
 loop-c-preserved c =
@@ -39,4 +46,6 @@ loop-c-preserved c =
     record { same = rw step.season old.same; sizes = rw step.sizes old.sizes; kept = rw step.at (passed c) }
 
 pub returns : goal.returns
-returns c = kept-all c.args.season.bytes.now c.args.season.sizes c.args.season.measured (rw c.loop-c.invariant.sizes at c.in-None.ensures.steps) c.loop-c.invariant.kept
+returns c =
+    let v = c.args.season in
+    kept-all v.bytes.now v.sizes v.measured (rw c.loop-c.invariant.sizes at c.in-None.ensures.steps) c.loop-c.invariant.kept
