@@ -7,6 +7,8 @@ ghost use Rattle.robinx.specs.Season.{most_teams, most_slots};
 ghost use Rattle.robinx.specs.Sums.{sum_to, only};
 ghost use Rattle.robinx.specs.Groups.{bit, size};
 ghost use Rattle.robinx.specs.Timetable.{games_between};
+ghost use Rattle.robinx.specs.Kinds.{kind_of};
+ghost use Rattle.robinx.specs.declared.Kind.TheVariants.{Ca4, Ga1};
 ghost use Rattle.robinx.specs.Deviations.{each, over, outside, dev_ca4, dev_ga1};
 ghost use Rattle.tables.specs.Tables.{x_of};
 ghost use Rattle.opponents.specs.Fillable.{Fillable, TiedGroup};
@@ -105,7 +107,7 @@ fn fill_columns(kmin: u8, kmax: u8, s: Slots, p: usize, words: &[Slots], out: &m
 
 // CA4.
 pub fn fill_ca4(c: Constraint, z: Season, tables: &Tables, out: &mut [u32])
-    requires { Fillable z.teams z.slots c tables.now out.old × (c.kind ≡ 14) }
+    requires { Fillable z.teams z.slots c tables.now out.old × (kind_of c.kind ≡ Ca4) }
     ensures { out.new ≡ dev_ca4 z.teams z.slots c (x_of tables.now.meets) }
 {
     let games = Meetings {
@@ -125,7 +127,7 @@ pub fn fill_ca4(c: Constraint, z: Season, tables: &Tables, out: &mut [u32])
 
 // GA1: CA4's games of the home side.
 pub fn fill_ga1(c: Constraint, z: Season, tables: &Tables, out: &mut [u32])
-    requires { Fillable z.teams z.slots c tables.now out.old × (c.kind ≡ 21) }
+    requires { Fillable z.teams z.slots c tables.now out.old × (kind_of c.kind ≡ Ga1) }
     ensures { out.new ≡ dev_ga1 z.teams z.slots c (x_of tables.now.meets) }
 {
     let hosted = Meetings {

@@ -9,6 +9,7 @@ use borrow.Author.Rules.{rules}
 use Rattle.robinx.specs.Season.{slots_of}
 use Rattle.robinx.specs.Groups.{size}
 use Rattle.robinx.specs.Kinds.{kind_of, form_of}
+use Rattle.robinx.specs.declared.Kind.TheVariants.{Ca4}
 use Rattle.robinx.specs.Timetable.{first_modes}
 use Rattle.robinx.specs.Deviations.{outside, dev_ca4}
 use Rattle.robinx.specs.declared.Constraint.{Constraint}
@@ -23,10 +24,10 @@ use Rattle.between.proofs.fill_ca4.Goals as goal
 use Rattle.between.proofs.fill_ca4.Goals.{After-outside}
 
 -- one place, or one for each slot of S
-places : {n p : ℕ} {c : Constraint} {ts : Tables} {out : List ℕ} {b : Bool} → Fillable n p c ts out → c.kind ≡ 14 → b ≡ first_modes c.mode
+places : {n p : ℕ} {c : Constraint} {ts : Tables} {out : List ℕ} {b : Bool} → Fillable n p c ts out → kind_of c.kind ≡ Ca4 → b ≡ first_modes c.mode
     → length out ≡ cond b 1 (size p (slots_of c))
-unfolding kind_of form_of
-places f k e = rw e (places_of f (ap kind_of k))
+unfolding form_of
+places f k e = rw e (places_of f k)
 
 pub of_mode-requires : goal.of_mode-requires
 of_mode-requires c = (limits c.requires.0).mode-least

@@ -12,8 +12,8 @@ use Rattle.between.proofs.fill_ga1.Goals as goal
 use Rattle.between.proofs.fill_ga1.Goals.{Start}
 
 one_place : (c : Start) → length c.args.out.now ≡ 1
-unfolding kind_of form_of
-one_place c = places_of c.requires.0 (ap kind_of c.requires.1)
+unfolding form_of
+one_place c = places_of c.requires.0 c.requires.1
 
 pub games_in-requires : goal.games_in-requires
 games_in-requires c = let r = c.requires.0 in (given-t1 r, (limits r).t2)
