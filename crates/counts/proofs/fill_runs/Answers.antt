@@ -1,63 +1,24 @@
--- `counts::fill_runs` meets its contract: before each turn the figures of the teams passed are in. Assumes nothing.
-use native.Mathlib.Omega.{arith}
-use mathlib.Core.Path.{◌≡◌, refl, sym, ◌∙◌}
-use Prim.Native.Nat.{◌<◌}
-use lib.ListN.{length}
-use Rattle.robinx.specs.Season.{most_teams}
-use Rattle.robinx.specs.Groups.{size}
+-- `counts::fill_runs` meets its contract. Assumes nothing.
+use Rattle.std.proofs.Common.{rules, ◌∙◌, ◌<◌}
+use Rattle.robinx.proofs.SetBits.{in-below}
 use Rattle.tables.specs.Tables.{x_of}
 use Rattle.opponents.proofs.Fillable.{limits, given-t2}
-use Rattle.counts.proofs.TeamFigures.{run-games, run-figures, a-place-a-team}
-use Rattle.groups.proofs.MemberWalk.{each_start, each-place, each-few, each_turn, each-end}
-use borrow.Author.Rules.{rules}
+use Rattle.counts.proofs.TeamFigures.{run-places, run-figures}
 use Rattle.counts.proofs.fill_runs.Goals as goal
-use Rattle.counts.proofs.fill_runs.Goals.{After-runs_of, Start}
 
-places : (c : Start) → length c.args.out.now ≡ size c.args.n c.args.c.t1
-places c =
-    let a = c.args in
-    let x = x_of a.meets.now in
-    c.requires.0.places ∙ a-place-a-team a.n a.p a.c x _ (run-figures a.n a.p a.c x c.requires.1)
+pub fill_each-requires-clause-room : goal.fill_each-requires-clause-room
+fill_each-requires-clause-room c = run-places c.requires.0 c.requires.1
 
-pub loop-m-init : goal.loop-m-init
-loop-m-init c =
-    let r = c.requires.0 in (record { long = refl; first = refl }, each_start c.of-m.ensures r.teams (limits r).t1 (places (goal.at.loop-m-init c).Start))
-
-pub counted-requires : goal.counted-requires
-counted-requires c =
-    let p = c.requires in
-    ((c.next-m.ensures _ _ c.loop-m.invariant.1.ahead).room, (limits p.0).mode-least, omega (arith, p.1), omega (arith, p.1), given-t2 p.0)
-
-pub runs_of-requires : goal.runs_of-requires
-runs_of-requires c = (c.requires.0.slots, c.loop-m.invariant.0)
-
-few : (c : After-runs_of) → c.loop-m.at < most_teams
-few c = each-few c.loop-m.invariant.1 c.next-m.ensures
-
-pub offset_bounds-out-at : goal.offset_bounds-out-at
-offset_bounds-out-at c = let r = few (goal.at.offset_bounds-out-at c).After-runs_of in search rules
-
-pub bounds-out-at : goal.bounds-out-at
-bounds-out-at c = each-place c.loop-m.invariant.1 c.next-m.ensures
-
-pub overflow_add-at : goal.overflow_add-at
-overflow_add-at c = let r = few (goal.at.overflow_add-at c).After-runs_of in search rules
-
-pub loop-m-smaller : goal.loop-m-smaller
-loop-m-smaller c = let x = c.next-m.ensures _ _ c.loop-m.invariant.1.ahead in search rules
-
-pub loop-m-preserved : goal.loop-m-preserved
-loop-m-preserved c =
-    let mask = c.counted in (
-      c.runs_of.ensures.1,
-      each_turn c.loop-m.invariant.1 c.next-m.ensures
-          (c.runs_of.ensures.0 ∙ run-games c.args.p c.args.c mask.result c.requires.0.slots mask.ensures),
-    )
-
-pub shape_of-out : goal.shape_of-out
-shape_of-out c = c.loop-m.invariant.1.filled.filled.long ∙ sym (places (goal.at.shape_of-out c).Start)
+pub fill_each-requires-clause-callable : goal.fill_each-requires-clause-callable
+fill_each-requires-clause-callable c =
+    λ t l h.
+    let r = c.requires.0 in
+    let t2 = given-t2 r in
+    let team : t < c.args.z.teams = in-below c.args.c.t1 _ (limits r).t1 t h in search rules
 
 pub returns : goal.returns
 returns c =
     let a = c.args in
-    each-end c.loop-m.invariant.1 (search rules) ∙ run-figures a.n a.p a.c (x_of a.meets.now) c.requires.1
+    let r = c.requires.0 in
+    c.fill_each.ensures _ _ r.teams (limits r).t1 (λ t l h v p. search rules)
+    ∙ run-figures a.z.teams a.z.slots a.c (x_of a.tables.now.meets) c.requires.1
