@@ -10,6 +10,8 @@ use Rattle.robinx.specs.Season.{decode}
 use Rattle.robinx.specs.Refusals.{Sentence, sentence, first_true, of_season, of_sheet, sentence1, sentence2, sentence3, sentence4, sentence5, sentence7, sentence8}
 use Rattle.robinx.specs.Calls.{Buffers, Outcome, Call, unless_refused, of_buffers, of_call, open_fault, opened, open_call, call_fault}
 use Rattle.robinx.specs.PlainSheet.{plain_fault}
+use Rattle.robinx.specs.RefusalNumbers.{number_of}
+use Rattle.robinx.specs.declared.Refusal.{Refusal}
 
 -- no sentence is true
 abbrev pub Clear : List Sentence → Type 0
@@ -97,3 +99,7 @@ module _ (season : List ℕ) (b : Buffers) where
 
     pub call_passes : (k : Call) → call_fault season b k ≡ plain_fault (decode season) b.sheet k
     call_passes k = fault-of-call k ∙ ap (λ (f : ℕ). or_else f (plain_fault (decode season) b.sheet k)) open-passes
+
+-- a refusal has a number
+pub never-0 : (r : Refusal) → number_of r ≡ 0 → ⊥
+never-0 r e = grind arith

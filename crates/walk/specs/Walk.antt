@@ -28,11 +28,11 @@ pub record Given (s : List ℕ) (z : Season) (t : Tables) (ledger tally : List �
   pub tally-length : length tally ≡ (decode s).C + 2
 
 -- the moves are possible, and `teams` has the teams of both
-pub record SoundMoves (teams : ℕ) (first second : Move) : Type 0 where
-  pub first : Possible first
-  pub second : Possible second
-  pub first-teams : Named teams first
-  pub second-teams : Named teams second
+pub record SoundMoves (teams : ℕ) (v w : Move) : Type 0 where
+  pub first : Possible v
+  pub second : Possible w
+  pub first-teams : Named teams v
+  pub second-teams : Named teams w
 
 abbrev pub SoundTouch : Touch → Type 0
 SoundTouch Everything = Unit {0}

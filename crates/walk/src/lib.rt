@@ -70,12 +70,7 @@ fn is_touched(c: Constraint, touch: Touch) -> bool
 }
 
 // Works out a constraint's deviations into the stretch, and from them its penalty. Nothing else is written.
-pub fn price(
-    c: Constraint,
-    z: Season,
-    tables: &Tables,
-    stretch: &mut [u32],
-) -> u64
+pub fn price(c: Constraint, z: Season, tables: &Tables, stretch: &mut [u32]) -> u64
     requires { Fillable z.teams z.slots c tables.now stretch.old }
     ensures { (stretch.new ≡ deviations z.teams z.slots c (x_of tables.now.meets))
         × (result ≡ penalty c (deviations z.teams z.slots c (x_of tables.now.meets))) }
