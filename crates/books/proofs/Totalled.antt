@@ -1,7 +1,7 @@
 -- The two totals behind the penalties, which a walk leaves as they were: read and written after it.
-use mathlib.Core.Path.{◌≡◌, refl, sym, ap, subst, ◌∙◌}
+use mathlib.Core.Path.{◌≡◌, refl, sym, ap, ◌∙◌}
 use mathlib.Core.List.{List, [], ◌∷◌, ◌++◌, append_assoc}
-use mathlib.Core.Bool.{Bool, true, ◌||◌}
+use mathlib.Core.Bool.{Bool, true}
 use Prim.Native.Nat.{ℕ, ◌+◌, ◌-◌, ◌%◌, ◌^◌}
 use native.Mathlib.Nat.{add-zero}
 use native.Mathlib.Omega.{arith}
@@ -15,10 +15,8 @@ use Rattle.robinx.specs.Calls.{stretch_at, gained, reworked_penalty, moved_total
 use Rattle.totals.specs.declared.Totals.{Totals}
 use Rattle.robinx.specs.declared.Reply.{Reply}
 use Rattle.robinx.proofs.Lengths.{length-list_to, list-beyond}
-use Rattle.touch.specs.Touched.{touched_by_move}
-use Rattle.walk.specs.Walk.{is_touched, stored, Reworked}
+use Rattle.walk.specs.Walk.{stored, Reworked}
 use Rattle.books.specs.Answer.{reply_of, Opened, Answered}
-use Rattle.walk.specs.declared.Touch.{Touch}
 use Rattle.walk.specs.declared.Moved.{Moved}
 use Rattle.totals.proofs.RunningTotals.{hard-change, soft-change}
 
@@ -49,22 +47,19 @@ module _ (f : ℕ → ℕ) (n : ℕ) where
 
 module _ {m : Instance} {x : X} {tally : List ℕ} (long : length tally ≡ m.C + 2) {n : ℕ} (at-end : n ≡ m.C) where
   -- all were touched, so what is gained is the totals
-  pub opened : (τ : Touch) {ledger ledger' tally₁ tally' : List ℕ} {q : Moved} {u : ℕ} {r : Reply} → τ.all ≡ true
-      → Reworked m (λ c. is_touched τ (m.constraint c)) x ledger tally ledger' tally₁ q
+  pub opened : {ledger ledger' tally₁ tally' : List ℕ} {q : Moved} {u : ℕ} {r : Reply}
+      → Reworked m (λ c. true) x ledger tally ledger' tally₁ q
       → tally' ≡ stored tally₁ n q.gained.hard q.gained.soft
       → r ≡ reply_of u q.gained q.gained.hard
       → Opened m x u ledger' tally' r
   unfolding total gained stretch_at
-  opened τ {ledger} {ledger'} {tally₁} {q = q} all w e h =
-      let moves : ℕ → Bool = λ c. touched_by_move τ.first (m.constraint c) || touched_by_move τ.second (m.constraint c) in
-      let every = subst (λ (b : Bool). Reworked m (λ c. b || moves c) x ledger tally ledger' tally₁ q) all w in
-      record {
-        t = q.gained;
-        totals = every.got;
-        ledger-is = every.ledger-is;
-        tally-is = e ∙ rw (at-end, every.tally-is) (totals-stored (penalty_at m x) m.C tally _ _ long);
-        reply-is = h;
-      }
+  opened {q = q} every e h = record {
+    t = q.gained;
+    totals = every.got;
+    ledger-is = every.ledger-is;
+    tally-is = e ∙ rw (at-end, every.tally-is) (totals-stored (penalty_at m x) m.C tally _ _ long);
+    reply-is = h;
+  }
 
   pub answered : {t : ℕ → Bool} {ledger ledger' tally₁ tally' : List ℕ} {q : Moved} {d : Totals} {u : ℕ} {r : Reply}
       → Reworked m t x ledger tally ledger' tally₁ q

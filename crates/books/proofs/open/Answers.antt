@@ -4,16 +4,8 @@ use Rattle.walk.proofs.WalkTurns.{all}
 use Rattle.books.proofs.Totalled.{opened}
 use Rattle.books.proofs.open.Goals as goal
 
-pub walk-moved-requires : goal.walk-moved-requires
-walk-moved-requires c = (c.requires, c.everything.ensures.1)
-
 pub store-requires : goal.store-requires
-store-requires c =
-    let g = c.requires in
-    omega (arith, all g, g.tally-length, c.walk-moved.auto)
+store-requires c = let g = c.requires in omega (arith, all g, g.tally-length, c.walk-moved.auto)
 
 pub returns : goal.returns
-returns c =
-    let g = c.requires in
-    opened g.tally-length (all g) c.everything.result c.everything.ensures.0 c.walk-moved.ensures c.store.ensures
-    (rw (← c.verdict.ensures) c.accepted.ensures)
+returns c = let g = c.requires in opened g.tally-length (all g) c.walk-moved.ensures c.store.ensures (rw (← c.of.ensures) c.accepted.ensures)
