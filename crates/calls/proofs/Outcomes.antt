@@ -1,7 +1,7 @@
 -- What the three calls leave is what their definitions say, once sentences 1 to 8 are passed.
 use mathlib.Core.Path.{◌≡◌, ap, ◌∙◌}
 use mathlib.Core.List.{List}
-use mathlib.Core.Bool.{Bool, false, cond, ◌&&◌, or-false}
+use mathlib.Core.Bool.{Bool, cond, ◌&&◌, ◌||◌, or-false}
 use Prim.Native.Nat.{ℕ, ◌+◌, ◌-◌, ◌%◌, ◌^◌, ◌<◌}
 use native.Mathlib.Omega.{arith}
 use lib.IntN.{pos}
@@ -25,8 +25,8 @@ use Rattle.season.proofs.Found.{measured}
 use Rattle.tables.specs.declared.Tables.{Tables}
 use Rattle.tables.specs.Tables.{x_of}
 use Rattle.timetable.specs.OfSheet.{unplaced}
-use Rattle.touch.specs.Touched.{no_move}
-use Rattle.walk.specs.Walk.{Given, SoundTouch, is_touched}
+use Rattle.touch.specs.Touched.{no_move, touched_by_move}
+use Rattle.walk.specs.Walk.{Given, is_touched}
 use Rattle.books.specs.Answer.{Opened, Answered}
 use Rattle.touch.specs.declared.Move.{Move}
 use Rattle.walk.specs.declared.Touch.{Touch}
@@ -136,19 +136,24 @@ reworked-is {m} b {t = t} {x} {u} k w et same eu =
 
 -- a walk that reworks what two moves touch
 abbrev pub OfMoves : Touch → Move → Move → Type 0
-OfMoves τ first second = (τ.all ≡ false) × (τ.first ≡ first) × (τ.second ≡ second) × SoundTouch τ
+OfMoves τ v w = (c : Constraint) → is_touched τ c ≡ touched_by_move v c || touched_by_move w c
 
 module _ (m : Instance) (sheet : List ℕ) (τ : Touch) {first second : Move} (w : OfMoves τ first second) where
   -- what a set's move touches
   pub set-touched : (g b : ℕ) → first ≡ move_of m.home m.away g (get_or sheet g 0) b → second ≡ no_move
       → (λ c. is_touched τ (m.constraint c)) ≡ touched m sheet (Call.set_slot g b)
   unfolding touched touches
-  set-touched g b e d =
-      rw (w.0, w.1, w.2, e, d) (λ i c. or-false (touches (m.constraint c) (get_or m.home g 0) (get_or m.away g 0) (get_or sheet g 0) b) i)
+  set-touched g b e d = λ i c. here c i
+    where
+      here : (c : ℕ) → is_touched τ (m.constraint c) ≡ touched m sheet (Call.set_slot g b) c
+      here c = w (m.constraint c) ∙ rw (e, d) (or-false (touches (m.constraint c) (get_or m.home g 0) (get_or m.away g 0) (get_or sheet g 0) b))
 
   -- the two moves of an exchange
   pub exchange-touched : (g h : ℕ) → first ≡ move_of m.home m.away g (get_or sheet g 0) (get_or sheet h 0)
       → second ≡ move_of m.home m.away h (get_or sheet h 0) (get_or sheet g 0)
       → (λ c. is_touched τ (m.constraint c)) ≡ touched m sheet (Call.exchange g h)
   unfolding touched
-  exchange-touched g h e d = rw (w.0, w.1, w.2, e, d)
+  exchange-touched g h e d = λ i c. here c i
+    where
+      here : (c : ℕ) → is_touched τ (m.constraint c) ≡ touched m sheet (Call.exchange g h) c
+      here c = w (m.constraint c) ∙ rw (e, d)

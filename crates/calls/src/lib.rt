@@ -12,6 +12,7 @@ use robinx::{Refusal, Season};
 use touch::Move;
 
 // Sentences 9 and 10 of a set, in their order.
+#[tactic(auto, unfolding(robinx::specs::Refusals::first_true))]
 pub fn set_fault(z: Season, game: u64, slot: u64) -> Result<(), Refusal>
     ensures { fault_of result ≡ first_true (set_numbers z game slot) }
 {
@@ -25,6 +26,7 @@ pub fn set_fault(z: Season, game: u64, slot: u64) -> Result<(), Refusal>
 }
 
 // One of the two games has no slot.
+#[tactic(auto, unfolding(robinx::specs::Refusals::sentence12))]
 fn unplaced_pair(sheet: &[u8], g: usize, h: usize) -> bool
     requires { (g < length sheet.now) × (h < length sheet.now) }
     ensures { result ≡ sentence12 sheet.now g h }
@@ -33,6 +35,7 @@ fn unplaced_pair(sheet: &[u8], g: usize, h: usize) -> bool
 }
 
 // Sentences 9, 11 and 12 of an exchange, in their order.
+#[tactic(auto, unfolding(robinx::specs::Refusals::first_true, robinx::specs::Refusals::sentence11))]
 pub fn exchange_fault(z: Season, sheet: &[u8], game: u64, other: u64) -> Result<(), Refusal>
     requires { z.games ≤ length sheet.now }
     ensures { fault_of result ≡ first_true (exchange_numbers z sheet.now game other) }
