@@ -35,14 +35,7 @@ fn swap(
     let aways = reader::aways(season, z);
     let here = sheet[g];
     let there = sheet[h];
-    if timetable::swap(
-        homes,
-        aways,
-        sheet,
-        tables,
-        g,
-        h,
-    ) {
+    if timetable::swap(homes, aways, sheet, tables, g, h) {
         let first = move_of(homes, aways, g, here, there);
         let second = move_of(homes, aways, h, there, here);
         sheet[g] = there;

@@ -35,14 +35,7 @@ fn set_to(
     let homes = reader::homes(season, z);
     let aways = reader::aways(season, z);
     let from = sheet[g];
-    if timetable::reslot(
-        homes,
-        aways,
-        sheet,
-        tables,
-        g,
-        b,
-    ) {
+    if timetable::reslot(homes, aways, sheet, tables, g, b) {
         let first = move_of(homes, aways, g, from, b);
         let left = unplaced - no_slot(from) + no_slot(b);
         sheet[g] = b;

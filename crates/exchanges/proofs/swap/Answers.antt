@@ -67,7 +67,7 @@ rework-requires c =
     let p = c.requires in
     let f = rw (c.if-swap.true, c.homes-homes.ensures, c.aways-aways.ensures) at c.swap.ensures in
     let e = exchange-no-fault (decode a.season.now) a.sheet.now p.1 p.2 p.3 p.4 (not-true _ (sym f.no-clash)) in
-    (given-after p.0 (Call.exchange a.g a.h) e f, c.moves.ensures.3)
+    (given-after p.0 (Call.exchange a.g a.h) e f, c.moves.ensures.sound)
 
 pub returns-then-swap : goal.returns-then-swap
 unfolding decode moved
@@ -77,7 +77,7 @@ returns-then-swap c =
     let f = rw (c.if-swap.true, c.homes-homes.ensures, c.aways-aways.ensures) at c.swap.ensures in
     let e = exchange-no-fault (decode a.season.now) a.sheet.now p.1 p.2 p.3 p.4 (not-true _ (sym f.no-clash)) in
     call-is p.0 (Call.exchange a.g a.h) e f c.rework.ensures
-    (exchange-touched (decode a.season.now) a.sheet.now c.moves.result c.moves.ensures a.g a.h
+    (exchange-touched (decode a.season.now) a.sheet.now c.moves.result c.moves.ensures.touched a.g a.h
     (rw (c.homes-homes.ensures, c.aways-aways.ensures) at c.move_of-first.ensures)
     (rw (c.homes-homes.ensures, c.aways-aways.ensures) at c.move_of-second.ensures))
     (unplaced-after-exchange a.sheet.now a.g a.h (decode a.season.now).G p.1 p.2 p.3 (as-many-slots p.0) p.0.count p.4)

@@ -64,7 +64,7 @@ rework-requires c =
     let p = c.requires in
     let f = rw (c.if-reslot.true, c.homes-homes.ensures, c.aways-aways.ensures) at c.reslot.ensures in
     let e = set-no-fault (decode a.season.now) a.sheet.now p.1 p.2 (not-true _ (sym f.no-clash)) in
-    (given-after p.0 (Call.set_slot a.g a.b) e f, c.moves.ensures.3)
+    (given-after p.0 (Call.set_slot a.g a.b) e f, c.moves.ensures.sound)
 
 pub returns-then-reslot : goal.returns-then-reslot
 unfolding decode moved
@@ -74,7 +74,7 @@ returns-then-reslot c =
     let f = rw (c.if-reslot.true, c.homes-homes.ensures, c.aways-aways.ensures) at c.reslot.ensures in
     let e = set-no-fault (decode a.season.now) a.sheet.now p.1 p.2 (not-true _ (sym f.no-clash)) in
     call-is p.0 (Call.set_slot a.g a.b) e f c.rework.ensures
-    (set-touched (decode a.season.now) a.sheet.now c.moves.result c.moves.ensures a.g a.b
+    (set-touched (decode a.season.now) a.sheet.now c.moves.result c.moves.ensures.touched a.g a.b
     (rw (c.homes-homes.ensures, c.aways-aways.ensures) at c.move_of-first.ensures)
     c.no_move.ensures)
     (unplaced-after-set a.sheet.now a.g a.b (decode a.season.now).G p.1 (as-many-slots p.0) p.0.count
