@@ -2,33 +2,39 @@
 use mathlib.Core.Path.{◌≡◌, sym, ap, ◌∙◌}
 use mathlib.Core.List.{List}
 use Prim.Native.Nat.{ℕ}
+use Rattle.std.specs.Prelude.{Result, Ok, Err}
 use Rattle.robinx.specs.Season.{decode}
 use Rattle.robinx.specs.Calls.{Buffers, Outcome, outcome, declined, opened, open_call, Call, call_fault, call_on}
 use Rattle.robinx.specs.PlainSheet.{plain_fault}
+use Rattle.robinx.specs.RefusalNumbers.{number_of, fault_of}
+use Rattle.robinx.specs.declared.Refusal.{Refusal}
 use Rattle.robinx.specs.declared.Reply.{Reply}
-use Rattle.robinx.proofs.Passed.{or_else, fault-of-call}
+use Rattle.robinx.proofs.Passed.{or_else, fault-of-call, never-0}
 use Rattle.tables.specs.declared.Tables.{Tables}
 use Rattle.admission.specs.Admission.{Admits, after_entry}
-use Rattle.admission.specs.declared.Admission.{Admission}
+use Rattle.admission.specs.declared.Admitted.{Admitted}
 use Rattle.calls.proofs.CallNumbers.{refusal_is, first-stands}
 
-module _ {s : List ℕ} {t : Tables} {b : Buffers} {r : Admission} (w : Admits s b r t) where
-  call-fault : (k : Call) → call_fault s b k ≡ or_else r.fault (plain_fault (decode s) b.sheet k)
-  call-fault k = fault-of-call s b k ∙ ap (λ (f : ℕ). or_else f (plain_fault (decode s) b.sheet k)) (sym w.number)
+module _ {s : List ℕ} {t : Tables} {b : Buffers} where
+  call-fault : {r : Result Admitted Refusal} → Admits s b r t → (k : Call) → call_fault s b k ≡ or_else (fault_of r) (plain_fault (decode s) b.sheet k)
+  call-fault w k = fault-of-call s b k ∙ ap (λ (f : ℕ). or_else f (plain_fault (decode s) b.sheet k)) (sym w.number)
 
-  pub open-refused : {a : Reply} → (r.fault ≡ 0 → ⊥) → a ≡ declined r.fault → outcome a b ≡ open_call s b
-  unfolding open_call
-  open-refused some e = rw (← w.number) (refusal_is r.fault _ some e)
+  module _ {e : Refusal} (w : Admits s b (Err e) t) {a : Reply} (d : a ≡ declined (number_of e)) where
+    pub open-refused : outcome a b ≡ open_call s b
+    unfolding open_call
+    open-refused = rw (← w.number) (refusal_is (number_of e) _ (never-0 e) d)
 
-  pub open-accepted : {o : Outcome} → r.fault ≡ 0 → o ≡ opened (decode s) b.sheet → o ≡ open_call s b
-  unfolding open_call
-  open-accepted none e = rw (← w.number, none) e
+    -- set and exchange
+    pub call-refused : (k : Call) → outcome a b ≡ call_on s b k
+    unfolding call_on
+    call-refused k =
+        rw (call-fault w k, first-stands (number_of e) (plain_fault (decode s) b.sheet k) (never-0 e)) (refusal_is (number_of e) _ (never-0 e) d)
 
-  -- set and exchange
-  pub call-refused : (k : Call) {a : Reply} → (r.fault ≡ 0 → ⊥) → a ≡ declined r.fault → outcome a b ≡ call_on s b k
-  unfolding call_on
-  call-refused k some e = rw (call-fault k, first-stands r.fault (plain_fault (decode s) b.sheet k) some) (refusal_is r.fault _ some e)
+  module _ {x : Admitted} (w : Admits s b (Ok x) t) {o : Outcome} where
+    pub open-accepted : o ≡ opened (decode s) b.sheet → o ≡ open_call s b
+    unfolding open_call
+    open-accepted e = rw (← w.number) e
 
-  pub call-passed : (k : Call) {o : Outcome} → r.fault ≡ 0 → o ≡ after_entry (decode s) b k → o ≡ call_on s b k
-  unfolding call_on
-  call-passed k none e = rw (call-fault k, none) e
+    pub call-passed : (k : Call) → o ≡ after_entry (decode s) b k → o ≡ call_on s b k
+    unfolding call_on
+    call-passed k e = rw (call-fault w k) e

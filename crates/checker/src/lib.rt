@@ -35,7 +35,15 @@ pub fn season_set(
     let mut tables = Tables::new();
     match admission::admit(season, sheet, ledger, tally, &mut tables) {
         Ok(a) => sets::set(
-            season, a.sizes, sheet, a.unplaced, &mut tables, ledger, tally, game, slot,
+            season,
+            a.sizes,
+            sheet,
+            a.unplaced,
+            &mut tables,
+            ledger,
+            tally,
+            game,
+            slot,
         ),
         Err(refusal) => replies::declined(refusal),
     }
@@ -56,7 +64,15 @@ pub fn season_exchange(
     let mut tables = Tables::new();
     match admission::admit(season, sheet, ledger, tally, &mut tables) {
         Ok(a) => exchanges::exchange(
-            season, a.sizes, sheet, a.unplaced, &mut tables, ledger, tally, game, other,
+            season,
+            a.sizes,
+            sheet,
+            a.unplaced,
+            &mut tables,
+            ledger,
+            tally,
+            game,
+            other,
         ),
         Err(refusal) => replies::declined(refusal),
     }

@@ -2,18 +2,12 @@
 use Rattle.robinx.specs.Calls.{Call}
 use Rattle.checker.proofs.Exported.{call-refused, call-passed}
 use Rattle.checker.proofs.season_exchange.Goals as goal
-use Rattle.checker.proofs.season_exchange.Goals.{After-admit-a}
-
-abbrev asked : After-admit-a → Call
-asked c = let a = c.args in Call.exchange a.game a.other
-
-pub returns-then-a-ne0 : goal.returns-then-a-ne0
-returns-then-a-ne0 c =
-    call-refused c.admit-a.ensures (asked (goal.at.returns-then-a-ne0 c).After-admit-a) c.if-a-ne0.true c.declined.ensures
 
 pub exchange-requires : goal.exchange-requires
-exchange-requires c = c.admit-a.ensures.ready c.if-a-ne0.false
+exchange-requires c = c.in-Ok.ensures.ready
 
-pub returns : goal.returns
-returns c =
-    call-passed c.admit-a.ensures (asked (goal.at.returns c).After-admit-a) c.if-a-ne0.false c.exchange.ensures
+pub returns-in-Ok : goal.returns-in-Ok
+returns-in-Ok c = call-passed c.in-Ok.ensures (Call.exchange c.args.game c.args.other) c.exchange.ensures
+
+pub returns-in-Err : goal.returns-in-Err
+returns-in-Err c = call-refused c.in-Err.ensures c.declined.ensures (Call.exchange c.args.game c.args.other)

@@ -2,18 +2,12 @@
 use Rattle.robinx.specs.Calls.{Call}
 use Rattle.checker.proofs.Exported.{call-refused, call-passed}
 use Rattle.checker.proofs.season_set.Goals as goal
-use Rattle.checker.proofs.season_set.Goals.{After-admit-a}
-
-abbrev asked : After-admit-a → Call
-asked c = let a = c.args in Call.set_slot a.game a.slot
-
-pub returns-then-a-ne0 : goal.returns-then-a-ne0
-returns-then-a-ne0 c =
-    call-refused c.admit-a.ensures (asked (goal.at.returns-then-a-ne0 c).After-admit-a) c.if-a-ne0.true c.declined.ensures
 
 pub set-requires : goal.set-requires
-set-requires c = c.admit-a.ensures.ready c.if-a-ne0.false
+set-requires c = c.in-Ok.ensures.ready
 
-pub returns : goal.returns
-returns c =
-    call-passed c.admit-a.ensures (asked (goal.at.returns c).After-admit-a) c.if-a-ne0.false c.set.ensures
+pub returns-in-Ok : goal.returns-in-Ok
+returns-in-Ok c = call-passed c.in-Ok.ensures (Call.set_slot c.args.game c.args.slot) c.set.ensures
+
+pub returns-in-Err : goal.returns-in-Err
+returns-in-Err c = call-refused c.in-Err.ensures c.declined.ensures (Call.set_slot c.args.game c.args.slot)
