@@ -56,7 +56,8 @@ fn put_rows(season: &[u8], verdict: u8, tally: &[u64], out: &mut [Row]) -> usize
     put_broken(season, z, tally, out)
 }
 
-// The report of an input, season and then sheet: its rows, or the number of the refusal.
+// The report of an input, season and then sheet: its rows, or the refusal's number. That is a u8, since it is the number of the exported
+// call's reply.
 pub fn rows<'a>(input: &[u8], out: &'a mut [Row]) -> Result<&'a [Row], u8>
     requires { most_constraints + 1 ≤ length out.old }
     ensures { Reported input.now result }

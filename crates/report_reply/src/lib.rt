@@ -2,13 +2,13 @@
 
 #![tactic(auto)]
 
-ghost use Rattle.std.specs.Prelude.{◌≡◌, ◌+◌, ◌≤◌, length, take, drop};
+ghost use Rattle.std.specs.Prelude.{◌≡◌, ◌+◌, ◌≤◌, length, take, drop, IfOk};
 ghost use Rattle.robinx.specs.Season.{most_constraints, most_deviations};
 ghost use Rattle.robinx.specs.Report.{season_of, sheet_of, report_fault};
 ghost use Rattle.season.specs.Examination.{Examination};
 ghost use Rattle.report_reply.specs.ReportReply.{up_to_six, report_reply, TallyOf};
 
-use robinx::Reply;
+use robinx::{Refusal, Reply};
 use season::Examined;
 
 // The most deviations of a season that is reported.
@@ -25,45 +25,40 @@ pub fn season_end(input: &[u8]) -> usize
     let games = reader::short(input, 2);
     let constraints = reader::short(input, 4);
     let end = 6 + 2 * games + 24 * constraints;
-    if input.len() < end {
-        return input.len();
-    }
-    end
+    end.min(input.len())
 }
 
 // Any bytes, by sentences 1 to 6.
-fn examine(season: &[u8]) -> Examined
-    ensures { Examination (up_to_six season.now) season.now result }
+fn examine(season: &[u8]) -> Result<Examined, Refusal>
+    ensures told { Examination (up_to_six season.now) season.now result }
+    ensures few { IfOk result (λ e. (e.entries ≤ most_deviations) × (e.sizes.constraints ≤ most_constraints)) }
 {
-    let e = season::examine(season);
-    if e.fault != 0 {
-        return e;
+    let found = season::examine(season)?;
+    if MOST_DEVIATIONS < found.entries {
+        return Err(Refusal::TooManyDeviations);
     }
-    if MOST_DEVIATIONS < e.entries {
-        return season::refused_by(6);
-    }
-    e
+    Ok(found)
 }
 
-// The reply that the report is made of; ledger and tally are used as far as the season asks.
+// The reply that the report is made of: the exported call's, so a flag and a number as in the C interface. Ledger and tally are used as far as
+// the season asks.
 pub fn open(input: &[u8], ledger: &mut [u32], tally: &mut [u64]) -> Reply
     requires { (length ledger.old ≡ most_deviations) × (length tally.old ≡ most_constraints + 2) }
     ensures { (result ≡ report_reply input.now)
         × (report_fault input.now ≡ 0
         → TallyOf (season_of input.now) (sheet_of input.now) tally.new) }
 {
-    let end = season_end(input);
-    let season = &input[..end];
-    let e = examine(season);
-    if e.fault != 0 {
-        return replies::declined(e.fault);
+    let (season, sheet) = input.split_at(season_end(input));
+    match examine(season) {
+        Ok(found) => {
+            let words = found.sizes.constraints + 2;
+            checker::season_open(
+                season,
+                sheet,
+                &mut ledger[..found.entries],
+                &mut tally[..words],
+            )
+        }
+        Err(refusal) => replies::declined(refusal),
     }
-    let entries = e.entries;
-    let words = e.sizes.constraints + 2;
-    checker::season_open(
-        season,
-        &input[end..],
-        &mut ledger[..entries],
-        &mut tally[..words],
-    )
 }
