@@ -1,6 +1,6 @@
 -- What the tests of an admission tell, in their order: each refusal has the number of the first true sentence, and a call that
 -- passes them all has the tables of its sheet.
-use mathlib.Core.Path.{◌≡◌, refl, sym, ap, ◌∙◌}
+use mathlib.Core.Path.{◌≡◌, sym, ap, ◌∙◌}
 use mathlib.Core.List.{List}
 use mathlib.Core.Bool.{Bool, true, false, ◌&&◌, ◌||◌, not}
 use Prim.Native.Nat.{ℕ, ◌+◌, ◌≤◌}
@@ -10,70 +10,45 @@ use lib.ListN.{length}
 use borrow.Author.Tests.{eqb-true, not-false, not-true}
 use Rattle.robinx.specs.Season.{decode, most_teams, most_slots, most_constraints}
 use Rattle.robinx.specs.Timetable.{clash}
-use Rattle.robinx.specs.Refusals.{first_true, of_season, of_sheet, sentence7, sentence8}
+use Rattle.robinx.specs.Refusals.{Sentence, first_true, of_season, of_sheet, sentence7, sentence8}
 use Rattle.robinx.specs.Calls.{Buffers, open_fault}
 use Rattle.robinx.specs.declared.Season.{Season}
 use Rattle.robinx.proofs.Sums.{and_yes, or_no}
-use Rattle.robinx.proofs.Passed.{or_else, first-of-both}
 use Rattle.reader.specs.Sizes.{sizes_of, Measured}
 use Rattle.season.specs.Examination.{Examination}
 use Rattle.season.specs.declared.Examined.{Examined}
-use Rattle.robinx.specs.RefusalNumbers.{number_of, fault_of}
+use Rattle.robinx.specs.RefusalNumbers.{number_of}
 use Rattle.robinx.specs.declared.Refusal.{Refusal}
-use Rattle.robinx.specs.declared.Refusal.TheVariants.{ShortSeason, SizeOutOfRange, SeasonLength, BadGame, BadConstraint, TooManyDeviations, BufferLength}
-use Rattle.robinx.specs.declared.Refusal.TheVariants.{BadSheet, NoSuchGame, NoSuchSlot, SameGame, UnplacedGame, TeamBusy}
-use Rattle.std.specs.Prelude.{Result, Ok, Err, Some, None}
+use Rattle.robinx.specs.declared.Refusal.TheVariants.{BufferLength}
+use Rattle.robinx.specs.declared.Refusal.TheVariants.{BadSheet}
+use Rattle.std.specs.Prelude.{Ok, Err, Some, None}
 use Rattle.reader.proofs.Read.{slots_read, games-read, constraints-read}
-use Rattle.season.proofs.Found.{SoundSeason, no-fault}
+use Rattle.season.proofs.Found.{SoundSeason, accepted, refused-first, passed-on}
 use Rattle.tables.specs.declared.Tables.{Tables}
 use Rattle.timetable.specs.OfSheet.{Teams, above, Builds}
 use Rattle.admission.specs.Admission.{Admits}
+use Rattle.admission.specs.declared.Admitted.{Admitted}
 
 -- a refusal says nothing of the tables
 refusal : {s : List ℕ} {b : Buffers} {t : Tables} (e : Refusal) → open_fault s b ≡ number_of e → Admits s b (Err e) t
-refusal e h = record { number = sym h; ready = tt }
+refusal e h = record { number = sym h; found = tt }
 
--- the first true one of sentences 7 and 8
-abbrev of_rest : List ℕ → Buffers → ℕ
-of_rest s b = first_true (of_sheet (decode s) b.sheet (length b.ledger) (length b.tally))
-
-season-then-rest : (s : List ℕ) (b : Buffers) {r : Result Examined Refusal} → Examination (of_season s) s r
-    → open_fault s b ≡ or_else (fault_of r) (of_rest s b)
-unfolding open_fault
-season-then-rest s b x =
-    first-of-both (of_season s) (of_sheet (decode s) b.sheet (length b.ledger) (length b.tally)) tt
-    ∙ ap (λ (f : ℕ). or_else f (of_rest s b)) (sym x.fault)
+-- sentences 7 and 8
+abbrev of_rest : List ℕ → Buffers → List Sentence
+of_rest s b = of_sheet (decode s) b.sheet (length b.ledger) (length b.tally)
 
 -- a fault of the season comes first
 pub season-refused : (s : List ℕ) (b : Buffers) {e : Refusal} {t : Tables} → Examination (of_season s) s (Err e) → Admits s b (Err e) t
-season-refused s b {e} x = refusal e (season-then-rest s b x ∙ first e)
-  where
-    first : (e : Refusal) → or_else (number_of e) (of_rest s b) ≡ number_of e
-    first = elim [
-      | ShortSeason ↦ refl
-      | SizeOutOfRange ↦ refl
-      | SeasonLength ↦ refl
-      | BadGame ↦ refl
-      | BadConstraint ↦ refl
-      | TooManyDeviations ↦ refl
-      | BufferLength ↦ refl
-      | BadSheet ↦ refl
-      | NoSuchGame ↦ refl
-      | NoSuchSlot ↦ refl
-      | SameGame ↦ refl
-      | UnplacedGame ↦ refl
-      | TeamBusy ↦ refl
-    ]
+unfolding open_fault
+season-refused s b {e} x = refusal e (refused-first s (of_rest s b) x)
 
 module _ (s : List ℕ) (b : Buffers) {r : Examined} (x : Examination (of_season s) s (Ok r)) where
-  clean : first_true (of_season s) ≡ 0
-  clean = sym x.fault
-
   sound-season : SoundSeason s
-  sound-season = no-fault s clean
+  sound-season = accepted x
 
-  rest : open_fault s b ≡ of_rest s b
-  rest = season-then-rest s b x
+  rest : open_fault s b ≡ first_true (of_rest s b)
+  unfolding open_fault
+  rest = passed-on s (of_rest s b) x
 
   abbrev z : Season
   z = r.sizes
@@ -136,17 +111,20 @@ module _ (s : List ℕ) (b : Buffers) {r : Examined} (x : Examination (of_season
       unfolding first_true
       sheet-refused w = refusal BadSheet (rest ∙ rw (seven, fit, eight, not-false bad (sym w.answer)))
 
-      pub admitted : {u : ℕ} → Builds z.slots (decode s).home (decode s).away b.sheet (Some u) t → Admits s b (Ok (record { sizes = z; unplaced = u })) t
+      pub admitted : {a : Admitted} → a.season.bytes.now ≡ s → Builds z.slots (decode s).home (decode s).away b.sheet (Some a.unplaced) t
+          → Admits s b (Ok a) t
       unfolding first_true
-      admitted w =
+      admitted here w =
           let good = not-true bad (sym w.answer) in
           let passed : open_fault s b ≡ 0 = rest ∙ rw (seven, fit, eight, good) in
           record {
             number = sym passed;
-            ready = record {
-              passed = passed;
-              sizes = e;
-              tables = record { no-clash = sym (ap not (or_no (above z.slots b.sheet) collides good).1); shows = λ _. w.shows };
-              count = rw (← sound-season.homes) w.count;
+            found = record {
+              same = here;
+              ready = record {
+                passed = passed;
+                tables = record { no-clash = sym (ap not (or_no (above z.slots b.sheet) collides good).1); shows = λ _. w.shows };
+                count = rw (← sound-season.homes) w.count;
+              };
             };
           }

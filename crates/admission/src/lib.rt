@@ -6,18 +6,18 @@
 ghost use Rattle.std.specs.Prelude.{◌≡◌, ◌&&◌, not, ◌+◌, ◌≤◌, eqb, length};
 ghost use Rattle.robinx.specs.Season.{decode, most_teams, most_slots, most_constraints};
 ghost use Rattle.robinx.specs.Calls.{buffers};
-ghost use Rattle.reader.specs.Sizes.{Measured};
 ghost use Rattle.tables.specs.Tables.{Empty};
 ghost use Rattle.timetable.specs.OfSheet.{Teams, Builds};
 ghost use Rattle.admission.specs.Admission.{Admits};
 
+use reader::view::SeasonView;
 use robinx::{Refusal, Season};
 use tables::Tables;
 
 // What is known of a call that sentences 1 to 8 let pass, beside the tables of its sheet.
 #[derive(Clone, Copy)]
-pub struct Admitted {
-    pub sizes: Season,
+pub struct Admitted<'a> {
+    pub season: SeasonView<'a>,
     pub unplaced: usize,
 }
 
@@ -30,34 +30,39 @@ pub fn lengths_bad(z: Season, entries: usize, sheet: usize, ledger: usize, tally
 }
 
 // Sentence 8, by building the tables of the sheet; None: it holds. Else the number of unplaced games.
-pub fn lay_tables(season: &[u8], z: Season, sheet: &[u8], tables: &mut Tables) -> Option<usize>
-    requires { Measured season.now z × Teams most_teams (decode season.now).home (decode season.now).away
-        × (length sheet.now ≡ length (decode season.now).home) × (z.slots ≤ most_slots) × Empty tables.old }
-    ensures { Builds z.slots (decode season.now).home (decode season.now).away sheet.now result tables.new }
+pub fn lay_tables(season: SeasonView, sheet: &[u8], tables: &mut Tables) -> Option<usize>
+    requires { Teams most_teams (decode season.bytes.now).home (decode season.bytes.now).away
+        × (length sheet.now ≡ length (decode season.bytes.now).home) × (season.sizes.slots ≤ most_slots) × Empty tables.old }
+    ensures { Builds season.entry.sizes.slots (decode season.entry.bytes.now).home (decode season.entry.bytes.now).away sheet.now result tables.new }
 {
-    let homes = reader::homes(season, z);
-    let aways = reader::aways(season, z);
-    timetable::build(homes, aways, sheet, z.slots, tables)
+    timetable::build(
+        season.homes(),
+        season.aways(),
+        sheet,
+        season.sizes.slots,
+        tables,
+    )
 }
 
 // Sentences 1 to 8, in their order.
-pub fn admit(
-    season: &[u8],
+pub fn admit<'a>(
+    bytes: &'a [u8],
     sheet: &[u8],
     ledger: &[u32],
     tally: &[u64],
     tables: &mut Tables,
-) -> Result<Admitted, Refusal>
+) -> Result<Admitted<'a>, Refusal>
     requires { Empty tables.old }
-    ensures { Admits season.now (buffers sheet.now ledger.now tally.now) result tables.new }
+    ensures { Admits bytes.now (buffers sheet.now ledger.now tally.now) result tables.new }
 {
-    let found = season::examine(season)?;
-    let z = found.sizes;
-    if lengths_bad(z, found.entries, sheet.len(), ledger.len(), tally.len()) {
+    let found = season::examine(bytes)?;
+    let sizes = found.sizes;
+    if lengths_bad(sizes, found.entries, sheet.len(), ledger.len(), tally.len()) {
         return Err(Refusal::BufferLength);
     }
-    match lay_tables(season, z, sheet, tables) {
-        Some(unplaced) => Ok(Admitted { sizes: z, unplaced }),
+    let season = SeasonView { bytes, sizes };
+    match lay_tables(season, sheet, tables) {
+        Some(unplaced) => Ok(Admitted { season, unplaced }),
         None => Err(Refusal::BadSheet),
     }
 }

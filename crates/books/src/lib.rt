@@ -10,7 +10,8 @@ ghost use Rattle.walk.specs.Walk.{Given, SoundTouch, is_touched, stored};
 ghost use Rattle.books.specs.Answer.{Opened, Answered};
 
 use replies::{Verdict, accepted};
-use robinx::{Reply, Season};
+use reader::view::SeasonView;
+use robinx::Reply;
 use tables::Tables;
 use totals::Totals;
 use walk::{Moved, Touch, walk};
@@ -45,38 +46,36 @@ fn settle(moved: Moved, at: usize, tally: &mut [u64]) -> Totals
 
 // The books of the tables, of whose sheet so many games are unplaced. The changes are the totals themselves.
 pub fn open(
-    season: &[u8],
-    z: Season,
+    season: SeasonView,
     unplaced: usize,
     tables: &Tables,
     ledger: &mut [u32],
     tally: &mut [u64],
 ) -> Reply
-    requires { Given season.now z tables.now ledger.old tally.old }
-    ensures { Opened (decode season.now) (x_of tables.now.meets) unplaced ledger.new tally.new result }
+    requires { Given season.bytes.now tables.now ledger.old tally.old }
+    ensures { Opened (decode season.entry.bytes.now) (x_of tables.now.meets) unplaced ledger.new tally.new result }
 {
-    let moved = walk(season, z, Touch::Everything, tables, ledger, tally);
+    let moved = walk(season, Touch::Everything, tables, ledger, tally);
     let totals = moved.gained;
-    store(totals, z.constraints, tally);
+    store(totals, season.sizes.constraints, tally);
     accepted(Verdict::of(unplaced, totals.hard), totals)
 }
 
 // The books after a change that touches some constraints, of which the tables are.
 pub fn rework(
-    season: &[u8],
-    z: Season,
+    season: SeasonView,
     touch: Touch,
     unplaced: usize,
     tables: &Tables,
     ledger: &mut [u32],
     tally: &mut [u64],
 ) -> Reply
-    requires { Given season.now z tables.now ledger.old tally.old × SoundTouch touch }
-    ensures { Answered (decode season.now) (λ k. is_touched touch ((decode season.now).constraint k))
+    requires { Given season.bytes.now tables.now ledger.old tally.old × SoundTouch touch }
+    ensures { Answered (decode season.entry.bytes.now) (λ k. is_touched touch ((decode season.entry.bytes.now).constraint k))
         (x_of tables.now.meets) unplaced ledger.old tally.old ledger.new tally.new result }
 {
-    let moved = walk(season, z, touch, tables, ledger, tally);
-    let at = z.constraints;
+    let moved = walk(season, touch, tables, ledger, tally);
+    let at = season.sizes.constraints;
     let change = settle(moved, at, tally);
     accepted(Verdict::of(unplaced, tally[at]), change)
 }

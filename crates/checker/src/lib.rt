@@ -15,7 +15,7 @@ pub fn season_open(season: &[u8], sheet: &[u8], ledger: &mut [u32], tally: &mut 
 {
     let mut tables = Tables::new();
     match admission::admit(season, sheet, ledger, tally, &mut tables) {
-        Ok(a) => books::open(season, a.sizes, a.unplaced, &tables, ledger, tally),
+        Ok(a) => books::open(a.season, a.unplaced, &tables, ledger, tally),
         Err(refusal) => replies::declined(refusal),
     }
 }
@@ -35,9 +35,7 @@ pub fn season_set(
     let mut tables = Tables::new();
     match admission::admit(season, sheet, ledger, tally, &mut tables) {
         Ok(a) => sets::set(
-            season,
-            a.sizes,
-            sheet,
+            a.season, sheet,
             a.unplaced,
             &mut tables,
             ledger,
@@ -64,9 +62,7 @@ pub fn season_exchange(
     let mut tables = Tables::new();
     match admission::admit(season, sheet, ledger, tally, &mut tables) {
         Ok(a) => exchanges::exchange(
-            season,
-            a.sizes,
-            sheet,
+            a.season, sheet,
             a.unplaced,
             &mut tables,
             ledger,

@@ -9,14 +9,14 @@ ghost use Rattle.admission.specs.Admission.{Ready, after_entry};
 
 use calls::{exchange_fault, move_of};
 use replies::declined;
-use robinx::{Refusal, Reply, Season};
+use reader::view::SeasonView;
+use robinx::{Refusal, Reply};
 use tables::Tables;
 use walk::moves;
 
 // Games g and h exchange their slots, if their teams are free there.
 fn swap(
-    season: &[u8],
-    z: Season,
+    season: SeasonView,
     sheet: &mut [u8],
     unplaced: usize,
     tables: &mut Tables,
@@ -25,14 +25,14 @@ fn swap(
     g: usize,
     h: usize,
 ) -> Reply
-    requires { Ready season.now (buffers sheet.old ledger.old tally.old) z unplaced tables.old
-        × (g < (decode season.now).G) × (h < (decode season.now).G) × (g ≡ h → ⊥)
+    requires { Ready season.bytes.now (buffers sheet.old ledger.old tally.old) unplaced tables.old
+        × (g < (decode season.bytes.now).G) × (h < (decode season.bytes.now).G) × (g ≡ h → ⊥)
         × (eqb (get_or sheet.old g 0) 0 || eqb (get_or sheet.old h 0) 0 ≡ false) }
     ensures { outcome result (buffers sheet.new ledger.new tally.new)
-        ≡ after_entry (decode season.now) (buffers sheet.old ledger.old tally.old) (exchange g h) }
+        ≡ after_entry (decode season.entry.bytes.now) (buffers sheet.old ledger.old tally.old) (exchange g h) }
 {
-    let homes = reader::homes(season, z);
-    let aways = reader::aways(season, z);
+    let homes = season.homes();
+    let aways = season.aways();
     let here = sheet[g];
     let there = sheet[h];
     if timetable::swap(homes, aways, sheet, tables, g, h) {
@@ -41,9 +41,7 @@ fn swap(
         sheet[g] = there;
         sheet[h] = here;
         return books::rework(
-            season,
-            z,
-            moves(first, second),
+            season, moves(first, second),
             unplaced,
             tables,
             ledger,
@@ -55,8 +53,7 @@ fn swap(
 
 // Exchange, once sentences 1 to 8 are passed.
 pub fn exchange(
-    season: &[u8],
-    z: Season,
+    season: SeasonView,
     sheet: &mut [u8],
     unplaced: usize,
     tables: &mut Tables,
@@ -65,15 +62,13 @@ pub fn exchange(
     game: u64,
     other: u64,
 ) -> Reply
-    requires { Ready season.now (buffers sheet.old ledger.old tally.old) z unplaced tables.old }
+    requires { Ready season.bytes.now (buffers sheet.old ledger.old tally.old) unplaced tables.old }
     ensures { outcome result (buffers sheet.new ledger.new tally.new)
-        ≡ after_entry (decode season.now) (buffers sheet.old ledger.old tally.old) (exchange game other) }
+        ≡ after_entry (decode season.entry.bytes.now) (buffers sheet.old ledger.old tally.old) (exchange game other) }
 {
-    match exchange_fault(z, sheet, game, other) {
+    match exchange_fault(season.sizes, sheet, game, other) {
         Ok(()) => swap(
-            season,
-            z,
-            sheet,
+            season, sheet,
             unplaced,
             tables,
             ledger,

@@ -9,7 +9,8 @@ ghost use Rattle.admission.specs.Admission.{Ready, after_entry};
 
 use calls::{move_of, set_fault};
 use replies::declined;
-use robinx::{Refusal, Reply, Season};
+use reader::view::SeasonView;
+use robinx::{Refusal, Reply};
 use tables::Tables;
 use timetable::no_slot;
 use touch::no_move;
@@ -17,8 +18,7 @@ use walk::moves;
 
 // Game g goes to the slot of byte b, if its teams are free there.
 fn set_to(
-    season: &[u8],
-    z: Season,
+    season: SeasonView,
     sheet: &mut [u8],
     unplaced: usize,
     tables: &mut Tables,
@@ -27,22 +27,20 @@ fn set_to(
     g: usize,
     b: u8,
 ) -> Reply
-    requires { Ready season.now (buffers sheet.old ledger.old tally.old) z unplaced tables.old
-        × (g < (decode season.now).G) × (b ≤ (decode season.now).P) }
+    requires { Ready season.bytes.now (buffers sheet.old ledger.old tally.old) unplaced tables.old
+        × (g < (decode season.bytes.now).G) × (b ≤ (decode season.bytes.now).P) }
     ensures { outcome result (buffers sheet.new ledger.new tally.new)
-        ≡ after_entry (decode season.now) (buffers sheet.old ledger.old tally.old) (set_slot g b) }
+        ≡ after_entry (decode season.entry.bytes.now) (buffers sheet.old ledger.old tally.old) (set_slot g b) }
 {
-    let homes = reader::homes(season, z);
-    let aways = reader::aways(season, z);
+    let homes = season.homes();
+    let aways = season.aways();
     let from = sheet[g];
     if timetable::reslot(homes, aways, sheet, tables, g, b) {
         let first = move_of(homes, aways, g, from, b);
         let left = unplaced - no_slot(from) + no_slot(b);
         sheet[g] = b;
         return books::rework(
-            season,
-            z,
-            moves(first, no_move()),
+            season, moves(first, no_move()),
             left,
             tables,
             ledger,
@@ -54,8 +52,7 @@ fn set_to(
 
 // Set, once sentences 1 to 8 are passed.
 pub fn set(
-    season: &[u8],
-    z: Season,
+    season: SeasonView,
     sheet: &mut [u8],
     unplaced: usize,
     tables: &mut Tables,
@@ -64,15 +61,13 @@ pub fn set(
     game: u64,
     slot: u64,
 ) -> Reply
-    requires { Ready season.now (buffers sheet.old ledger.old tally.old) z unplaced tables.old }
+    requires { Ready season.bytes.now (buffers sheet.old ledger.old tally.old) unplaced tables.old }
     ensures { outcome result (buffers sheet.new ledger.new tally.new)
-        ≡ after_entry (decode season.now) (buffers sheet.old ledger.old tally.old) (set_slot game slot) }
+        ≡ after_entry (decode season.entry.bytes.now) (buffers sheet.old ledger.old tally.old) (set_slot game slot) }
 {
-    match set_fault(z, game, slot) {
+    match set_fault(season.sizes, game, slot) {
         Ok(()) => set_to(
-            season,
-            z,
-            sheet,
+            season, sheet,
             unplaced,
             tables,
             ledger,

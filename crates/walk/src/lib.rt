@@ -15,6 +15,7 @@ ghost use Rattle.walk.specs.Walk.{Given, SoundTouch, is_touched, Reworked};
 
 use figures::fill;
 use kinds::form_of;
+use reader::view::SeasonView;
 use robinx::{Constraint, Kind, Season};
 use tables::Tables;
 use totals::{Totals, added};
@@ -116,21 +117,21 @@ fn renew(
 
 // Works out the constraints that are touched.
 pub fn walk(
-    season: &[u8],
-    z: Season,
+    season: SeasonView,
     touch: Touch,
     tables: &Tables,
     ledger: &mut [u32],
     tally: &mut [u64],
 ) -> Moved
-    requires { Given season.now z tables.now ledger.old tally.old × SoundTouch touch }
-    ensures { Reworked (decode season.now) (λ k. is_touched touch ((decode season.now).constraint k))
+    requires { Given season.bytes.now tables.now ledger.old tally.old × SoundTouch touch }
+    ensures { Reworked (decode season.entry.bytes.now) (λ k. is_touched touch ((decode season.entry.bytes.now).constraint k))
         (x_of tables.now.meets) ledger.old tally.old ledger.new tally.new result }
 {
     let mut sums = Moved::default();
     let mut at = 0;
+    let z = season.sizes;
     for k in 0..z.constraints {
-        let c = reader::cursor::constraint_of(season, z, k);
+        let c = season.constraint(k);
         let end = at + kinds::entries_of(c);
         let touched = is_touched(c, touch);
         if touched {

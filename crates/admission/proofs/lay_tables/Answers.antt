@@ -6,8 +6,8 @@ pub build-requires : goal.build-requires
 unfolding decode
 build-requires c =
     let p = c.requires in
-    rw (c.homes-homes.ensures, c.aways-aways.ensures) (p.1, p.2, p.3, p.4)
+    rw (c.homes.ensures, c.aways.ensures) p
 
 pub returns : goal.returns
 unfolding decode
-returns c = rw (← c.homes-homes.ensures, ← c.aways-aways.ensures) c.build.ensures
+returns c = rw (← c.homes.ensures, ← c.aways.ensures) c.build.ensures
