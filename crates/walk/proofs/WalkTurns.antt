@@ -20,6 +20,7 @@ use Rattle.robinx.proofs.Limits.{obeyed}
 use Rattle.robinx.proofs.Bounds.{sum-small}
 use Rattle.rules.specs.CountedBits.{ones_in}
 use Rattle.robinx.specs.Kinds.{form_at}
+use Rattle.reader.specs.Sizes.{Measured}
 use Rattle.reader.proofs.Read.{SizesInRange, in-range, teams-read, slots_read, constraints-read, sizes-tested}
 use Rattle.rules.proofs.Members.{entries-counted}
 use Rattle.tables.specs.declared.Tables.{Tables}
@@ -50,17 +51,18 @@ small {n} {P} {c} {t} r =
     omega (arith, sum-add (λ j. x i j k) (λ j. x j i k) n, w.home-row i k hi h, w.away-row i k hi h, w.once i k hi h) in
     omega (arith, sum-small n P r.teams r.slots x once c o.kmin o.kmax o.w)
 
-module _ {s : List ℕ} {z : Season} {t : Tables} {ledger tally : List ℕ} (g : Given s z t ledger tally) where
+module _ {s : List ℕ} {z : Season} (v : Measured s z) where
   pub all : z.constraints ≡ (decode s).C
-  all = constraints-read s g.measured.sizes
+  all = constraints-read s v.sizes
 
-  pub ranges : SizesInRange z
-  ranges = in-range z (sym (sizes-tested s g.measured.sizes) ∙ g.sizes)
+  module _ {t : Tables} {ledger tally : List ℕ} (g : Given s t ledger tally) where
+    ranges : SizesInRange z
+    ranges = in-range z (sym (sizes-tested s v.sizes) ∙ g.sizes)
 
-  keeps : (k : ℕ) → k < z.constraints → obeys (decode s).n (decode s).P ((decode s).constraint k) ≡ true
-  unfolding sentence5
-  keeps k l =
-      not-false _ (any_none (λ c. not (obeys (decode s).n (decode s).P ((decode s).constraint c))) (decode s).C g.rules k (omega (arith, all)))
+    keeps : (k : ℕ) → k < z.constraints → obeys (decode s).n (decode s).P ((decode s).constraint k) ≡ true
+    unfolding sentence5
+    keeps k l =
+        not-false _ (any_none (λ c. not (obeys (decode s).n (decode s).P ((decode s).constraint c))) (decode s).C g.rules k (omega (arith, all)))
 
 -- WalkTurn number k, in the words of the code: c has been read, it has e deviations, and its stretch begins at a. The stretch lies in the
 -- ledger and can be filled; the turn ends with it filled, or with nothing written.
@@ -78,7 +80,7 @@ pub record WalkTurn (s : List ℕ) (z : Season) (touch : Touch) (t : Tables) (le
       → Walk s touch t.meets ledger₀ tally₀ (k + 1) (a + e) ledger' tally' sums'
   pub kept : is_touched touch c ≡ false → Walk s touch t.meets ledger₀ tally₀ (k + 1) (a + e) ledger tally sums
 
-module _ {s : List ℕ} {z : Season} {t : Tables} {ledger₀ tally₀ : List ℕ} (g : Given s z t ledger₀ tally₀)
+module _ {s : List ℕ} {z : Season} {t : Tables} {ledger₀ tally₀ : List ℕ} (v : Measured s z) (g : Given s t ledger₀ tally₀)
     (touch : Touch) {k a : ℕ} {ledger tally : List ℕ} {sums : Moved} (w : Walk s touch t.meets ledger₀ tally₀ k a ledger tally sums)
     (l : k < z.constraints) {c : Constraint} (hc : c ≡ (decode s).constraint k)
     {e : ℕ} (he : e ≡ ones_in (form_at c.kind).shape c) where
@@ -86,16 +88,16 @@ module _ {s : List ℕ} {z : Season} {t : Tables} {ledger₀ tally₀ : List ℕ
   m = decode s
 
   more : k < m.C
-  more = rw (← all g) l
+  more = rw (← all v) l
 
   entry : e ≡ entries_at m k
-  entry = he ∙ rw hc (sym (entries-counted m.n m.P (m.constraint k) (keeps g k l)))
+  entry = he ∙ rw hc (sym (entries-counted m.n m.P (m.constraint k) (keeps v g k l)))
 
   end : a + e ≡ a + entries_at m k
   end = ap (λ (v : ℕ). a + v) entry
 
   figures : deviations z.teams z.slots c (x_of t.meets) ≡ deviations_at m (x_of t.meets) k
-  figures = rw (teams-read s g.measured.sizes, slots_read s g.measured.sizes, hc)
+  figures = rw (teams-read s v.sizes, slots_read s v.sizes, hc)
 
   inside : a + e ≤ length ledger
   inside = rw entry (walked-fits w g.ledger-length g.tally-length more)
@@ -105,11 +107,11 @@ module _ {s : List ℕ} {z : Season} {t : Tables} {ledger₀ tally₀ : List ℕ
     fits = inside;
     counted = omega (arith, more, w.listed.long, g.tally-length);
     ready =
-        rw (teams-read s g.measured.sizes, slots_read s g.measured.sizes, hc)
+        rw (teams-read s v.sizes, slots_read s v.sizes, hc)
         (record {
-          teams = rw (← teams-read s g.measured.sizes) (ranges g).teams;
-          slots = rw (← slots_read s g.measured.sizes) (ranges g).slots;
-          rules = keeps g k l;
+          teams = rw (← teams-read s v.sizes) (ranges v g).teams;
+          slots = rw (← slots_read s v.sizes) (ranges v g).slots;
+          rules = keeps v g k l;
           tied = g.tied;
           places = part_length ledger a (a + e) (entries_at m k) end inside;
         });

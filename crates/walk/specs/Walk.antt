@@ -7,8 +7,6 @@ use Rattle.robinx.specs.Books.{all_entries}
 use Rattle.robinx.specs.Calls.{reworked_stretch, reworked_penalty, gained, lost}
 use Rattle.robinx.specs.Refusals.{sentence2, sentence5}
 use Rattle.robinx.specs.declared.Constraint.{Constraint}
-use Rattle.robinx.specs.declared.Season.{Season}
-use Rattle.reader.specs.Sizes.{Measured}
 use Rattle.tables.specs.declared.Tables.{Tables}
 use Rattle.tables.specs.Tables.{Tied}
 use Rattle.touch.specs.Touched.{Possible, Named, touched_by_move}
@@ -19,8 +17,7 @@ use Rattle.walk.specs.declared.Touch.TheVariants.{Everything, Moves}
 use Rattle.walk.specs.declared.Moved.{Moved}
 
 -- a season whose sizes and constraints no sentence refuses, tables of its teams, and books of its lengths
-pub record Given (s : List ℕ) (z : Season) (t : Tables) (ledger tally : List ℕ) : Type 0 where
-  pub measured : Measured s z
+pub record Given (s : List ℕ) (t : Tables) (ledger tally : List ℕ) : Type 0 where
   pub sizes : sentence2 (decode s) ≡ false
   pub rules : sentence5 (decode s) ≡ false
   pub tied : Tied (decode s).n t

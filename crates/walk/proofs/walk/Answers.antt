@@ -12,22 +12,22 @@ loop-k-init c =
     let none : c.default-sums.result ≡ record { gained = record { hard = 0; soft = 0 }; lost = record { hard = 0; soft = 0 } } = search rules in
     rw none (walked_none _ _ _ _ _ _ refl refl)
 
-pub constraint_of-c-requires : goal.constraint_of-c-requires
-constraint_of-c-requires c = (c.requires.0.measured, c.loop-k-test.true)
+pub constraint-c-requires : goal.constraint-c-requires
+constraint-c-requires c = search rules
 
 -- what holds of a turn once its constraint has been read
 here : (c : After-entries_of)
     → let l = c.loop-k in
     let a = c.args in
-    WalkTurn a.season.now a.z a.touch a.tables.now a.ledger.now a.tally.now
+    WalkTurn a.season.bytes.now a.season.sizes a.touch a.tables.now a.ledger.now a.tally.now
     l.k
     l.at
     l.ledger
     l.tally
     l.sums
-    c.constraint_of-c.result
+    c.constraint-c.result
     c.entries_of.result
-here c = turn c.requires.0 c.args.touch c.loop-k.invariant c.loop-k-test.true c.constraint_of-c.ensures c.entries_of.ensures
+here c = turn c.args.season.measured c.requires.0 c.args.touch c.loop-k.invariant c.loop-k-test.true c.constraint-c.ensures c.entries_of.ensures
 
 pub overflow_add-end : goal.overflow_add-end
 overflow_add-end c =
@@ -56,4 +56,4 @@ loop-k-preserved c =
 pub returns : goal.returns
 returns c =
     let g = c.requires.0 in
-    walked-done c.loop-k.invariant g.ledger-length g.tally-length (omega (arith, all g, c.loop-k-test.false)) refl refl
+    walked-done c.loop-k.invariant g.ledger-length g.tally-length (omega (arith, all c.args.season.measured, c.loop-k-test.false)) refl refl
