@@ -9,8 +9,8 @@ ghost use Rattle.tables.specs.Tables.{x_of};
 ghost use Rattle.walk.specs.Walk.{Given, SoundTouch, is_touched, stored};
 ghost use Rattle.books.specs.Answer.{Opened, Answered};
 
-use replies::{Verdict, accepted};
 use reader::view::SeasonView;
+use replies::{Verdict, accepted};
 use robinx::Reply;
 use tables::Tables;
 use totals::Totals;

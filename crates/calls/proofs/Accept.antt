@@ -49,7 +49,7 @@ passes-again s sheet L T k p e = record {
 }
 
 -- a call that passed sentences 1 to 8 may try its tables
-module _ {s : List ℕ} {t : Tables} {b : Buffers} {z : Season} {u : ℕ} (r : Ready s b z u t) where
+module _ {s : List ℕ} {t : Tables} {b : Buffers} {u : ℕ} (r : Ready s b u t) where
   clean : Clean s b
   clean = ready-passed r
 
@@ -64,9 +64,6 @@ module _ {s : List ℕ} {t : Tables} {b : Buffers} {z : Season} {u : ℕ} (r : R
 
   pub as-many-slots : length b.sheet ≡ (decode s).G
   as-many-slots = (whole s b.sheet (length b.ledger) (length b.tally) clean).0
-
-  pub is-measured : Measured s z
-  is-measured = measured s r.sizes clean.s3
 
   sizes-sound : Sound (decode s)
   sizes-sound = is-sound s b.sheet (length b.ledger) (length b.tally) clean
@@ -101,9 +98,8 @@ module _ {s : List ℕ} {t : Tables} {b : Buffers} {z : Season} {u : ℕ} (r : R
     again : Passed s (moved b.sheet k) (length b.ledger) (length b.tally)
     again = passes-again s b.sheet (length b.ledger) (length b.tally) k clean e
 
-    pub given-after : Given s z t' b.ledger b.tally
+    pub given-after : Given s t' b.ledger b.tally
     given-after = record {
-      measured = is-measured;
       sizes = again.s2;
       rules = again.s5;
       tied = tied s (moved b.sheet k) (length b.ledger) (length b.tally) again f;

@@ -38,20 +38,19 @@ use Rattle.calls.proofs.Shown.{whole, tied, same-deviations, verdict-is}
 abbrev pub Clean : List ℕ → Buffers → Type 0
 Clean s b = Passed s b.sheet (length b.ledger) (length b.tally)
 
-pub ready-passed : {s : List ℕ} {b : Buffers} {z : Season} {u : ℕ} {t : Tables} → Ready s b z u t → Clean s b
+pub ready-passed : {s : List ℕ} {b : Buffers} {u : ℕ} {t : Tables} → Ready s b u t → Clean s b
 ready-passed {s} {b} r = passed s b r.passed
 
 -- a total that is small is its own two's complement
 signed-small : (v : ℕ) → v < 2 ^ 60 → to_z w64 v ≡ pos v
 signed-small v h = rw (lt-ltb v (2 ^ 63) (omega arith))
 
-pub given : {s : List ℕ} {b : Buffers} {z : Season} {u : ℕ} {t : Tables} → Ready s b z u t
-    → Given s z t b.ledger b.tally
+pub given : {s : List ℕ} {b : Buffers} {u : ℕ} {t : Tables} → Ready s b u t
+    → Given s t b.ledger b.tally
 given {s} {b} r =
     let p = ready-passed r in
     let w = whole s b.sheet (length b.ledger) (length b.tally) p in
     record {
-      measured = measured s r.sizes p.s3;
       sizes = p.s2;
       rules = p.s5;
       tied = tied s b.sheet (length b.ledger) (length b.tally) p r.tables;
@@ -87,8 +86,8 @@ module _ (m : Instance) (x y : X) (same : deviations_at m x ≡ deviations_at m 
       ap (λ (d : ℕ → List ℕ). (sum_to (λ c. only (t c && want (m.constraint c)) (penalty (m.constraint c) (d c))) m.C
       + (2 ^ 64 - lost want m t tally m.C % 2 ^ 64)) % 2 ^ 64) same
 
-pub open_is : {s : List ℕ} {b : Buffers} {z : Season} {u : ℕ} {t : Tables} {ledger' tally' : List ℕ} {a : Reply}
-    → Ready s b z u t → Opened (decode s) (x_of t.meets) u ledger' tally' a
+pub open_is : {s : List ℕ} {b : Buffers} {u : ℕ} {t : Tables} {ledger' tally' : List ℕ} {a : Reply}
+    → Ready s b u t → Opened (decode s) (x_of t.meets) u ledger' tally' a
     → outcome a (buffers b.sheet ledger' tally') ≡ opened (decode s) b.sheet
 unfolding opened fresh_ledger fresh_tally
 open_is {s} {b} {u = u} r w =

@@ -8,8 +8,8 @@ ghost use Rattle.robinx.specs.Calls.{exchange, buffers, outcome};
 ghost use Rattle.admission.specs.Admission.{Ready, after_entry};
 
 use calls::{exchange_fault, move_of};
-use replies::declined;
 use reader::view::SeasonView;
+use replies::declined;
 use robinx::{Refusal, Reply};
 use tables::Tables;
 use walk::moves;
@@ -41,7 +41,8 @@ fn swap(
         sheet[g] = there;
         sheet[h] = here;
         return books::rework(
-            season, moves(first, second),
+            season,
+            moves(first, second),
             unplaced,
             tables,
             ledger,
@@ -68,7 +69,8 @@ pub fn exchange(
 {
     match exchange_fault(season.sizes, sheet, game, other) {
         Ok(()) => swap(
-            season, sheet,
+            season,
+            sheet,
             unplaced,
             tables,
             ledger,

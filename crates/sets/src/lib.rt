@@ -8,8 +8,8 @@ ghost use Rattle.robinx.specs.Calls.{set_slot, buffers, outcome};
 ghost use Rattle.admission.specs.Admission.{Ready, after_entry};
 
 use calls::{move_of, set_fault};
-use replies::declined;
 use reader::view::SeasonView;
+use replies::declined;
 use robinx::{Refusal, Reply};
 use tables::Tables;
 use timetable::no_slot;
@@ -39,13 +39,7 @@ fn set_to(
         let first = move_of(homes, aways, g, from, b);
         let left = unplaced - no_slot(from) + no_slot(b);
         sheet[g] = b;
-        return books::rework(
-            season, moves(first, no_move()),
-            left,
-            tables,
-            ledger,
-            tally,
-        );
+        return books::rework(season, moves(first, no_move()), left, tables, ledger, tally);
     }
     declined(Refusal::TeamBusy)
 }
@@ -67,7 +61,8 @@ pub fn set(
 {
     match set_fault(season.sizes, game, slot) {
         Ok(()) => set_to(
-            season, sheet,
+            season,
+            sheet,
             unplaced,
             tables,
             ledger,

@@ -5,7 +5,7 @@ use Rattle.books.proofs.Totalled.{opened}
 use Rattle.books.proofs.open.Goals as goal
 
 pub store-requires : goal.store-requires
-store-requires c = let g = c.requires in omega (arith, all g, g.tally-length, c.walk-moved.auto)
+store-requires c = let g = c.requires in omega (arith, all c.args.season.measured, g.tally-length, c.walk-moved.auto)
 
 pub returns : goal.returns
-returns c = let g = c.requires in opened g.tally-length (all g) c.walk-moved.ensures c.store.ensures (rw (← c.of.ensures) c.accepted.ensures)
+returns c = let g = c.requires in opened g.tally-length (all c.args.season.measured) c.walk-moved.ensures c.store.ensures (rw (← c.of.ensures) c.accepted.ensures)

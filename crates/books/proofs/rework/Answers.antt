@@ -5,13 +5,13 @@ use Rattle.books.proofs.Totalled.{answered}
 use Rattle.books.proofs.rework.Goals as goal
 
 pub settle-change-requires : goal.settle-change-requires
-settle-change-requires c = let g = c.requires.0 in omega (arith, all g, g.tally-length, c.walk-moved.auto)
+settle-change-requires c = let g = c.requires.0 in omega (arith, all c.args.season.measured, g.tally-length, c.walk-moved.auto)
 
 pub bounds-tally-at : goal.bounds-tally-at
-bounds-tally-at c = let g = c.requires.0 in omega (arith, all g, g.tally-length)
+bounds-tally-at c = let g = c.requires.0 in omega (arith, all c.args.season.measured, g.tally-length)
 
 pub returns : goal.returns
 returns c =
     let g = c.requires.0 in
     let e = c.settle-change.ensures in
-    answered g.tally-length (all g) c.walk-moved.ensures e.0 e.1 e.2 (rw (← c.of.ensures) c.accepted.ensures)
+    answered g.tally-length (all c.args.season.measured) c.walk-moved.ensures e.0 e.1 e.2 (rw (← c.of.ensures) c.accepted.ensures)

@@ -6,15 +6,9 @@ use borrow.Author.Tests.{not-true, not-false}
 use Rattle.robinx.specs.Season.{decode}
 use Rattle.robinx.specs.Calls.{Call, moved}
 use Rattle.calls.proofs.Outcomes.{exchange-touched}
-use Rattle.calls.proofs.Accept.{range-most, as-many-games, as-many-guests, as-many-slots, is-measured, slot-possible, move-possible}
+use Rattle.calls.proofs.Accept.{range-most, as-many-games, as-many-guests, as-many-slots, slot-possible, move-possible}
 use Rattle.calls.proofs.Accept.{exchange-fault-13, exchange-no-fault, given-after, call-is, unplaced-after-exchange}
 use Rattle.exchanges.proofs.swap.Goals as goal
-
-pub homes-homes-requires : goal.homes-homes-requires
-homes-homes-requires c = is-measured c.requires.0
-
-pub aways-aways-requires : goal.aways-aways-requires
-aways-aways-requires c = is-measured c.requires.0
 
 pub bounds-sheet-g : goal.bounds-sheet-g
 bounds-sheet-g c = omega (arith, as-many-slots c.requires.0)
@@ -66,7 +60,7 @@ rework-requires c =
     let a = c.args in
     let p = c.requires in
     let f = rw (c.if-swap.true, c.homes-homes.ensures, c.aways-aways.ensures) at c.swap.ensures in
-    let e = exchange-no-fault (decode a.season.now) a.sheet.now p.1 p.2 p.3 p.4 (not-true _ (sym f.no-clash)) in
+    let e = exchange-no-fault (decode a.season.bytes.now) a.sheet.now p.1 p.2 p.3 p.4 (not-true _ (sym f.no-clash)) in
     (given-after p.0 (Call.exchange a.g a.h) e f, c.moves.ensures.sound)
 
 pub returns-then-swap : goal.returns-then-swap
@@ -75,12 +69,12 @@ returns-then-swap c =
     let a = c.args in
     let p = c.requires in
     let f = rw (c.if-swap.true, c.homes-homes.ensures, c.aways-aways.ensures) at c.swap.ensures in
-    let e = exchange-no-fault (decode a.season.now) a.sheet.now p.1 p.2 p.3 p.4 (not-true _ (sym f.no-clash)) in
+    let e = exchange-no-fault (decode a.season.bytes.now) a.sheet.now p.1 p.2 p.3 p.4 (not-true _ (sym f.no-clash)) in
     call-is p.0 (Call.exchange a.g a.h) e f c.rework.ensures
-    (exchange-touched (decode a.season.now) a.sheet.now c.moves.result c.moves.ensures.touched a.g a.h
+    (exchange-touched (decode a.season.bytes.now) a.sheet.now c.moves.result c.moves.ensures.touched a.g a.h
     (rw (c.homes-homes.ensures, c.aways-aways.ensures) at c.move_of-first.ensures)
     (rw (c.homes-homes.ensures, c.aways-aways.ensures) at c.move_of-second.ensures))
-    (unplaced-after-exchange a.sheet.now a.g a.h (decode a.season.now).G p.1 p.2 p.3 (as-many-slots p.0) p.0.count p.4)
+    (unplaced-after-exchange a.sheet.now a.g a.h (decode a.season.bytes.now).G p.1 p.2 p.3 (as-many-slots p.0) p.0.count p.4)
 
 pub returns : goal.returns
 unfolding decode moved
@@ -88,4 +82,4 @@ returns c =
     let a = c.args in
     let p = c.requires in
     let f = rw (c.if-swap.false, c.homes-homes.ensures, c.aways-aways.ensures) at c.swap.ensures in
-    rw (c.declined.ensures, exchange-fault-13 (decode a.season.now) a.sheet.now p.1 p.2 p.3 p.4 (not-false _ (sym f.no-clash)))
+    rw (c.declined.ensures, exchange-fault-13 (decode a.season.bytes.now) a.sheet.now p.1 p.2 p.3 p.4 (not-false _ (sym f.no-clash)))

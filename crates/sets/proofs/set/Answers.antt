@@ -12,11 +12,11 @@ use Rattle.sets.proofs.set.Goals.{In-Ok}
 
 -- the numbers of a call that goes on
 passed : (c : In-Ok) → let a = c.args in
-    let m = decode a.season.now in
+    let m = decode a.season.bytes.now in
     (a.game < m.G) × (a.slot ≤ m.P)
 passed c =
     let a = c.args in
-    set-passes a.season.now c.requires.sizes (buffers a.sheet.now a.ledger.now a.tally.now) a.game a.slot c.in-Ok.ensures refl
+    set-passes a.season.bytes.now c.args.season.measured.sizes (buffers a.sheet.now a.ledger.now a.tally.now) a.game a.slot c.in-Ok.ensures refl
 
 pub overflow_cast-slot : goal.overflow_cast-slot
 overflow_cast-slot c = omega (arith, (passed (goal.at.overflow_cast-slot c).In-Ok).1, few-slots c.requires)
@@ -27,6 +27,6 @@ set_to-requires c = let p = passed (goal.at.set_to-requires c).In-Ok in (c.requi
 pub returns-in-Err : goal.returns-in-Err
 returns-in-Err c =
     let a = c.args in
-    set-refused a.season.now c.requires.sizes (buffers a.sheet.now a.ledger.now a.tally.now) a.game a.slot c.in-Err.ensures
+    set-refused a.season.bytes.now c.args.season.measured.sizes (buffers a.sheet.now a.ledger.now a.tally.now) a.game a.slot c.in-Err.ensures
     (never-0 c.in-Err.refusal)
     c.declined.ensures

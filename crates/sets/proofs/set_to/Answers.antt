@@ -8,15 +8,9 @@ use Rattle.robinx.specs.Calls.{Call, moved}
 use Rattle.robinx.proofs.Sums.{only-le}
 use Rattle.touch.proofs.Asked.{none-possible}
 use Rattle.calls.proofs.Outcomes.{set-touched}
-use Rattle.calls.proofs.Accept.{range-most, as-many-games, as-many-guests, as-many-slots, is-measured, few-slots, counted, few-unplaced}
+use Rattle.calls.proofs.Accept.{range-most, as-many-games, as-many-guests, as-many-slots, few-slots, counted, few-unplaced}
 use Rattle.calls.proofs.Accept.{slot-possible, move-possible, set-fault-13, set-no-fault, given-after, call-is, unplaced-after-set}
 use Rattle.sets.proofs.set_to.Goals as goal
-
-pub homes-homes-requires : goal.homes-homes-requires
-homes-homes-requires c = is-measured c.requires.0
-
-pub aways-aways-requires : goal.aways-aways-requires
-aways-aways-requires c = is-measured c.requires.0
 
 pub bounds-sheet-g : goal.bounds-sheet-g
 bounds-sheet-g c = omega (arith, as-many-slots c.requires.0)
@@ -63,7 +57,7 @@ rework-requires c =
     let a = c.args in
     let p = c.requires in
     let f = rw (c.if-reslot.true, c.homes-homes.ensures, c.aways-aways.ensures) at c.reslot.ensures in
-    let e = set-no-fault (decode a.season.now) a.sheet.now p.1 p.2 (not-true _ (sym f.no-clash)) in
+    let e = set-no-fault (decode a.season.bytes.now) a.sheet.now p.1 p.2 (not-true _ (sym f.no-clash)) in
     (given-after p.0 (Call.set_slot a.g a.b) e f, c.moves.ensures.sound)
 
 pub returns-then-reslot : goal.returns-then-reslot
@@ -72,12 +66,12 @@ returns-then-reslot c =
     let a = c.args in
     let p = c.requires in
     let f = rw (c.if-reslot.true, c.homes-homes.ensures, c.aways-aways.ensures) at c.reslot.ensures in
-    let e = set-no-fault (decode a.season.now) a.sheet.now p.1 p.2 (not-true _ (sym f.no-clash)) in
+    let e = set-no-fault (decode a.season.bytes.now) a.sheet.now p.1 p.2 (not-true _ (sym f.no-clash)) in
     call-is p.0 (Call.set_slot a.g a.b) e f c.rework.ensures
-    (set-touched (decode a.season.now) a.sheet.now c.moves.result c.moves.ensures.touched a.g a.b
+    (set-touched (decode a.season.bytes.now) a.sheet.now c.moves.result c.moves.ensures.touched a.g a.b
     (rw (c.homes-homes.ensures, c.aways-aways.ensures) at c.move_of-first.ensures)
     c.no_move.ensures)
-    (unplaced-after-set a.sheet.now a.g a.b (decode a.season.now).G p.1 (as-many-slots p.0) p.0.count
+    (unplaced-after-set a.sheet.now a.g a.b (decode a.season.bytes.now).G p.1 (as-many-slots p.0) p.0.count
     c.no_slot.ensures
     c.no_slot-then-reslot.ensures
     refl)
@@ -88,4 +82,4 @@ returns c =
     let a = c.args in
     let p = c.requires in
     let f = rw (c.if-reslot.false, c.homes-homes.ensures, c.aways-aways.ensures) at c.reslot.ensures in
-    rw (c.declined.ensures, set-fault-13 (decode a.season.now) a.sheet.now p.1 p.2 (not-false _ (sym f.no-clash)))
+    rw (c.declined.ensures, set-fault-13 (decode a.season.bytes.now) a.sheet.now p.1 p.2 (not-false _ (sym f.no-clash)))
