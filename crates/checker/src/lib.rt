@@ -35,7 +35,8 @@ pub fn season_set(
     let mut tables = Tables::new();
     match admission::admit(season, sheet, ledger, tally, &mut tables) {
         Ok(a) => sets::set(
-            a.season, sheet,
+            a.season,
+            sheet,
             a.unplaced,
             &mut tables,
             ledger,
@@ -62,7 +63,8 @@ pub fn season_exchange(
     let mut tables = Tables::new();
     match admission::admit(season, sheet, ledger, tally, &mut tables) {
         Ok(a) => exchanges::exchange(
-            a.season, sheet,
+            a.season,
+            sheet,
             a.unplaced,
             &mut tables,
             ledger,

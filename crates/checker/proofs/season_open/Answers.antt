@@ -4,10 +4,12 @@ use Rattle.checker.proofs.Exported.{open-refused, open-accepted}
 use Rattle.checker.proofs.season_open.Goals as goal
 
 pub open-requires : goal.open-requires
-open-requires c = given c.in-Ok.ensures.ready
+open-requires c = let found = c.in-Ok.ensures.found in rw found.same (given found.ready)
 
 pub returns-in-Ok : goal.returns-in-Ok
-returns-in-Ok c = open-accepted c.in-Ok.ensures (open_is c.in-Ok.ensures.ready c.open.ensures)
+returns-in-Ok c =
+    let found = c.in-Ok.ensures.found in
+    open-accepted c.in-Ok.ensures (open_is found.ready (rw found.same at c.open.ensures))
 
 pub returns-in-Err : goal.returns-in-Err
 returns-in-Err c = open-refused c.in-Err.ensures c.declined.ensures
