@@ -14,14 +14,11 @@ use Rattle.robinx.specs.Timetable.{clash}
 use Rattle.robinx.specs.Refusals.{first_true, sentence9, sentence10, sentence11, sentence12, sentence13}
 use Rattle.robinx.specs.Calls.{Buffers, buffers, Call, moved, touched, outcome}
 use Rattle.robinx.specs.declared.Reply.{Reply}
-use Rattle.robinx.specs.declared.Season.{Season}
 use Rattle.robinx.specs.PlainSheet.{plain_fault}
 use Rattle.robinx.proofs.Sums.{or_no, term-le-sum}
 use Rattle.robinx.proofs.Passed.{Passed}
 use Rattle.robinx.proofs.Accepted.{length_moved, opens-again}
 use Rattle.robinx.proofs.Limits.{Sound, decode-home, decode-away}
-use Rattle.reader.specs.Sizes.{Measured}
-use Rattle.season.proofs.Found.{measured}
 use Rattle.tables.specs.declared.Tables.{Tables}
 use Rattle.tables.specs.Tables.{x_of}
 use Rattle.timetable.specs.OfSheet.{InRange, Fits, unplaced}

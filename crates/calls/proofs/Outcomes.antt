@@ -17,11 +17,9 @@ use Rattle.robinx.specs.Books.{timetable, deviations_at, penalty_at, is_hard, is
 use Rattle.robinx.specs.Calls.{Buffers, buffers, outcome, opened, Call, moved, touched, stretch_at, gained, lost, reworked_stretch, reworked_penalty, change, reworked}
 use Rattle.robinx.specs.Touch.{touches}
 use Rattle.robinx.specs.declared.Constraint.{Constraint}
-use Rattle.robinx.specs.declared.Season.{Season}
 use Rattle.robinx.specs.declared.Reply.{Reply}
 use Rattle.robinx.proofs.Passed.{Passed, passed}
 use Rattle.robinx.proofs.Demand3.{totals-small}
-use Rattle.season.proofs.Found.{measured}
 use Rattle.tables.specs.declared.Tables.{Tables}
 use Rattle.tables.specs.Tables.{x_of}
 use Rattle.timetable.specs.OfSheet.{unplaced}

@@ -1,5 +1,5 @@
 // The one reader: it holds the season and its place among the constraints, and gives them one after the other. It is thin: the work is left
-// to `constraint_at`. A caller that asks for one constraint uses `constraint_of`, whose parameters are plain.
+// to `constraint_at`.
 ghost use Rattle.std.specs.Prelude.{◌≡◌, ◌-◌, ◌<◌, ◌≤◌};
 ghost use Rattle.std.specs.Iterator.{at_most};
 ghost use Rattle.robinx.specs.Season.{decode};
@@ -49,12 +49,4 @@ impl<'a> Iterator for Cursor<'a> {
         self.at += 1;
         Some(c)
     }
-}
-
-// Constraint number k.
-pub fn constraint_of(season: &[u8], z: Season, k: usize) -> Constraint
-    requires { (Measured season.now z) × (k < z.constraints) }
-    ensures { result ≡ (decode season.now).constraint k }
-{
-    constraint_at(season, z, k)
 }

@@ -66,27 +66,6 @@ pub fn sizes(season: &[u8]) -> Season
     }
 }
 
-// The home team of each game.
-#[tactic(auto, using(crate::proofs::Read::sizes_read), unfolding(robinx::specs::Season::home_teams, robinx::specs::Season::decode))]
-pub fn homes(season: &[u8], z: Season) -> &[u8]
-    requires { Measured season.now z }
-    ensures { result.now ≡ home_teams season.now }
-{
-    let end = 6 + z.games;
-    &season[6..end]
-}
-
-// The away team of each game.
-#[tactic(auto, using(crate::proofs::Read::sizes_read), unfolding(robinx::specs::Season::away_teams, robinx::specs::Season::decode))]
-pub fn aways(season: &[u8], z: Season) -> &[u8]
-    requires { Measured season.now z }
-    ensures { result.now ≡ away_teams season.now }
-{
-    let start = 6 + z.games;
-    let end = start + z.games;
-    &season[start..end]
-}
-
 // The constraint with its head at place h and its body at place b.
 #[tactic(auto, unfolding(robinx::specs::Season::constraint_from))]
 fn constraint_from(s: &[u8], h: usize, b: usize) -> Constraint

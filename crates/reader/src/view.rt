@@ -15,17 +15,22 @@ pub struct SeasonView<'a> {
 
 impl<'a> SeasonView<'a> {
     // The home team of each game.
+    #[tactic(auto, using(crate::proofs::Read::sizes_read), unfolding(robinx::specs::Season::home_teams, robinx::specs::Season::decode))]
     pub fn homes(self) -> &'a [u8]
         ensures { result.now ≡ home_teams self.entry.bytes.now }
     {
-        super::homes(self.bytes, self.sizes)
+        let end = 6 + self.sizes.games;
+        &self.bytes[6..end]
     }
 
     // The away team of each game.
+    #[tactic(auto, using(crate::proofs::Read::sizes_read), unfolding(robinx::specs::Season::away_teams, robinx::specs::Season::decode))]
     pub fn aways(self) -> &'a [u8]
         ensures { result.now ≡ away_teams self.entry.bytes.now }
     {
-        super::aways(self.bytes, self.sizes)
+        let start = 6 + self.sizes.games;
+        let end = start + self.sizes.games;
+        &self.bytes[start..end]
     }
 
     // Constraint number k.

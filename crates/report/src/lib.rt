@@ -5,10 +5,10 @@
 ghost use Rattle.std.specs.Prelude.{◌≡◌, List, ◌++◌, ℕ, ◌+◌, ◌≤◌, length, take};
 ghost use Rattle.robinx.specs.Season.{most_constraints};
 ghost use Rattle.robinx.specs.Refusals.{first_true, of_season};
-ghost use Rattle.reader.specs.Sizes.{Measured};
 ghost use Rattle.report_reply.specs.ReportReply.{TallyOf};
 ghost use Rattle.report.specs.ReportRows.{broken_of, rows_of, Reported};
 
+use reader::view::SeasonView;
 use robinx::Season;
 
 // The most bytes of an input that are read: one more than the longest season with its sheet, so that the sheet of a longer input is too long.
@@ -21,19 +21,19 @@ pub const MOST_ROWS: usize = Season::CONSTRAINTS + 1;
 pub type Row = [u64; 3];
 
 // Writes the rows of the broken constraints behind the first row, and gives the number of rows then.
-fn put_broken(season: &[u8], z: Season, tally: &[u64], out: &mut [Row]) -> usize
-    requires { (Measured season.now z) × (z.constraints ≤ length tally.now) × (z.constraints + 1 ≤ length out.old) }
+fn put_broken(season: SeasonView, tally: &[u64], out: &mut [Row]) -> usize
+    requires { (season.sizes.constraints ≤ length tally.now) × (season.sizes.constraints + 1 ≤ length out.old) }
     ensures room { result ≤ length out.new }
-    ensures rows { (sheet : List ℕ) → TallyOf season.now sheet tally.now
-        → take result out.new ≡ take 1 out.old ++ broken_of season.now sheet z.constraints }
+    ensures rows { (sheet : List ℕ) → TallyOf season.entry.bytes.now sheet tally.now
+        → take result out.new ≡ take 1 out.old ++ broken_of season.entry.bytes.now sheet season.entry.sizes.constraints }
 {
     let mut count = 1;
-    let penalties = &tally[..z.constraints];
+    let penalties = &tally[..season.sizes.constraints];
     for (c, &penalty) in penalties.iter().enumerate() {
         if penalty == 0 {
             continue;
         }
-        let kind = reader::cursor::constraint_of(season, z, c).kind;
+        let kind = season.constraint(c).kind;
         out[count] = [c as u64, u64::from(kind), penalty];
         count += 1;
     }
@@ -42,18 +42,18 @@ fn put_broken(season: &[u8], z: Season, tally: &[u64], out: &mut [Row]) -> usize
 
 // Writes the rows of an accepted opening, and gives their number.
 #[tactic(auto, using(report_reply::proofs::Sixth::few_words))]
-fn put_rows(season: &[u8], verdict: u8, tally: &[u64], out: &mut [Row]) -> usize
-    requires { (first_true (of_season season.now) ≡ 0) × (length tally.now ≡ most_constraints + 2)
+fn put_rows(bytes: &[u8], verdict: u8, tally: &[u64], out: &mut [Row]) -> usize
+    requires { (first_true (of_season bytes.now) ≡ 0) × (length tally.now ≡ most_constraints + 2)
         × (most_constraints + 1 ≤ length out.old) }
     ensures room { result ≤ length out.new }
-    ensures rows { (sheet : List ℕ) → TallyOf season.now sheet tally.now
-        → take result out.new ≡ rows_of verdict season.now sheet }
+    ensures rows { (sheet : List ℕ) → TallyOf bytes.now sheet tally.now
+        → take result out.new ≡ rows_of verdict bytes.now sheet }
 {
-    let z = reader::sizes(season);
-    let hard = tally[z.constraints];
-    let soft = tally[z.constraints + 1];
+    let sizes = reader::sizes(bytes);
+    let hard = tally[sizes.constraints];
+    let soft = tally[sizes.constraints + 1];
     out[0] = [u64::from(verdict), hard, soft];
-    put_broken(season, z, tally, out)
+    put_broken(SeasonView { bytes, sizes }, tally, out)
 }
 
 // The report of an input, season and then sheet: its rows, or the refusal's number. That is a u8, since it is the number of the exported

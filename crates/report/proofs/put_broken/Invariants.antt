@@ -10,5 +10,5 @@ use Rattle.report.proofs.put_broken.Given as goal
 abbrev pub invariant-loop-c : goal.invariant-loop-c
 invariant-loop-c l = record {
   few : l.count ≤ l.c + 1;
-  rows : (sheet : List ℕ) → TallyOf l.season sheet l.tally → take l.count l.out ≡ take 1 l.initial.out ++ broken_of l.season sheet l.c;
+  rows : (sheet : List ℕ) → TallyOf l.season.bytes.now sheet l.tally → take l.count l.out ≡ take 1 l.initial.out ++ broken_of l.season.bytes.now sheet l.c;
 }
