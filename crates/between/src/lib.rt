@@ -98,7 +98,7 @@ fn fill_columns(kmin: u8, kmax: u8, s: Slots, p: usize, words: &[Slots], out: &m
 {
     let mut at = 0;
     for k in 0..p {
-        if masks::is_in(s, k as u64) {
+        if masks::is_in(s, k) {
             out[at] = outside(kmin, kmax, column(words, k));
             at += 1;
         }

@@ -41,7 +41,7 @@ fn team_breaks(c: Constraint, z: Season, tables: &Tables, t: usize) -> u32
     breaks_if(sides.asks_home(), h, all, c.s) + breaks_if(sides.asks_away(), a, all, c.s)
 }
 
-// How far a count of breaks is off kmax: modes 1 to 3 allow fewer.
+// How far a count of breaks is off kmax: modes 1 to 3 allow fewer. The mode is the constraint's byte: this asks one thing of it.
 fn off_target(mode: u8, kmax: u8, v: u32) -> u32
     ensures { result ≡ off_target (first_modes mode) kmax v }
 {

@@ -1,4 +1,5 @@
-// What stands around the tables in set and exchange: the sentences about their numbers, and the move of a game.
+// What stands around the tables in set and exchange: the sentences about their numbers, and the move of a game. The numbers of a call are u64, as C
+// gives them; between them and usize there is no From, so they are cast.
 
 #![tactic(auto)]
 

@@ -1,4 +1,5 @@
-// Exchange for a call that has passed sentences 1 to 8.
+// Exchange for a call that has passed sentences 1 to 8. The numbers of a call are u64, as C gives them, and
+// there is no From of them to a usize: once they are tested, they are cast. Sheet, ledger and tally come one by one, as the console lends them.
 
 #![tactic(auto)]
 

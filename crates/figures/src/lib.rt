@@ -10,7 +10,8 @@ ghost use Rattle.opponents.specs.Fillable.{Fillable};
 use robinx::{Constraint, Kind, Season};
 use tables::Tables;
 
-// The deviations of a constraint. What is no kind has none; the rules leave no such constraint.
+// The deviations of a constraint. Constraint, sizes and tables are three parameters: of a struct with a reference to the tables each `ensures` would
+// say entry. What is no kind has none; the rules leave no such constraint.
 #[tactic(auto, unfolding(robinx::specs::Deviations::deviations, robinx::specs::Deviations::deviations_of))]
 pub fn fill(c: Constraint, z: Season, tables: &Tables, out: &mut [u32])
     requires { Fillable z.teams z.slots c tables.now out.old }

@@ -35,7 +35,7 @@ fn game_bad(counts: &mut [u8; Season::PLACES], i: usize, j: usize, n: usize) -> 
     false
 }
 
-// Sentence 4, in one pass over the games.
+// Sentence 4, in one pass over the games, whose teams are two lists as in the season's bytes.
 pub fn games_bad(homes: &[u8], aways: &[u8], n: usize) -> bool
     requires { (length aways.now ≡ length homes.now) × (n ≤ most_teams) }
     ensures { result ≡ sentence4 (of_games n homes.now aways.now) }

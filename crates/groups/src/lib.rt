@@ -40,7 +40,8 @@ pub fn everyone(n: usize) -> u32
 pub fn size_of(group: u32) -> usize
     ensures { (result ≡ ones group) × (result ≤ most_teams) }
 {
-    u32::count_ones(group) as usize
+    // a cast, since usize has no From<u32>
+    group.count_ones() as usize
 }
 
 // How many pairs they make.
@@ -97,7 +98,8 @@ impl Iterator for Members {
         if self.rest == 0 {
             return None;
         }
-        let z = u32::trailing_zeros(self.rest);
+        let z = self.rest.trailing_zeros();
+        // a cast, since usize has no From<u32>
         let team = self.at + z as usize;
         *self = Self {
             at: team + 1,

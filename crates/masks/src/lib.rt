@@ -1,4 +1,5 @@
-// Masks of slots: bit k of a u64 stands for slot k, counted from 0. Everything that knows that a mask is one word is in here.
+// Masks of slots: bit k of a u64 stands for slot k, counted from 0. Everything that knows that a mask is one word is in here. A count of bits is a
+// u32, and Rust has no From of it to a usize: so it is cast.
 
 #![tactic(auto)]
 
@@ -14,13 +15,6 @@ use robinx::{Season, Slots};
 
 // No slot.
 pub const NONE: Slots = 0;
-
-// The mask that a season writes as a number of eight bytes.
-pub fn of_number(v: u64) -> Slots
-    ensures { result ≡ v }
-{
-    v
-}
 
 // The mask has no slot.
 pub fn is_none(s: Slots) -> bool
@@ -67,7 +61,7 @@ pub fn size(s: Slots) -> usize
 }
 
 // Slot k is in the mask.
-pub fn is_in(s: Slots, k: u64) -> bool
+pub fn is_in(s: Slots, k: usize) -> bool
     requires { k < most_slots }
     ensures { result ≡ has s k }
 {
@@ -79,7 +73,7 @@ pub fn bit_at(s: Slots, k: usize) -> u8
     requires { k < most_slots }
     ensures { result ≡ bit s k }
 {
-    u8::from(is_in(s, k as u64))
+    u8::from(is_in(s, k))
 }
 
 // The mask's first eight slots, as a byte.
@@ -97,7 +91,7 @@ pub fn past_eight(s: Slots) -> Slots
 }
 
 // The mask of one slot.
-pub fn slot(k: u64) -> Slots
+pub fn slot(k: usize) -> Slots
     requires { k < most_slots }
     ensures { result ≡ 2 ^ k }
 {
@@ -105,7 +99,7 @@ pub fn slot(k: u64) -> Slots
 }
 
 // Slot k is at or before the last one of the mask.
-pub fn last_reach(s: Slots, k: u64) -> bool
+pub fn last_reach(s: Slots, k: usize) -> bool
     requires { k < most_slots }
     ensures { result ≡ reaches s k }
 {
@@ -113,7 +107,7 @@ pub fn last_reach(s: Slots, k: u64) -> bool
 }
 
 // The mask with slot k.
-pub fn joined(m: Slots, k: u64) -> Slots
+pub fn joined(m: Slots, k: usize) -> Slots
     requires { k < most_slots }
     ensures { result ≡ joined m k }
 {
@@ -121,7 +115,7 @@ pub fn joined(m: Slots, k: u64) -> Slots
 }
 
 // The mask without slot k.
-pub fn without(m: Slots, k: u64) -> Slots
+pub fn without(m: Slots, k: usize) -> Slots
     requires { k < most_slots }
     ensures { result ≡ without m k }
 {
@@ -143,19 +137,19 @@ pub fn common(m: Slots, n: Slots) -> Slots
 }
 
 // The first slot of a mask that has one.
-pub fn first(m: Slots) -> u64
+pub fn first(m: Slots) -> usize
     requires { 0 < m }
     ensures { First m result }
 {
-    u64::from(m.trailing_zeros())
+    m.trailing_zeros() as usize
 }
 
 // The mask's slots among the first p.
-pub fn front(m: Slots, p: u64) -> Slots
+pub fn front(m: Slots, p: usize) -> Slots
     requires { p ≤ most_slots }
     ensures { result ≡ m % 2 ^ p }
 {
-    if p == Season::SLOTS as u64 {
+    if p == Season::SLOTS {
         return m;
     }
     m & (slot(p) - 1)
@@ -201,7 +195,7 @@ pub fn trip_starts(away: Slots, home: Slots) -> Slots
 
 // The slots of the run of away games that starts in slot a: up to the next home game. The home games, read as a number, less slot a: this borrows
 // from the next home game, so the slots from a up to it come in, and no others.
-pub fn trip_from(away: Slots, home: Slots, a: u64) -> Slots
+pub fn trip_from(away: Slots, home: Slots, a: usize) -> Slots
     requires { a < most_slots }
     ensures { Marks most_slots (on_trip (has away) (has home) a) result }
 {

@@ -19,7 +19,7 @@ use measure::Sides;
 use robinx::{Season, Slots};
 use tables::Tables;
 
-// The mask if it is asked for, else none.
+// The mask if it is asked for, else none. Both sides are looked up, without a branch between them.
 fn only_if(asked: bool, mask: Slots) -> Slots
     ensures { result ≡ only asked mask }
 {

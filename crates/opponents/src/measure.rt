@@ -42,7 +42,7 @@ impl Sides {
     }
 }
 
-// The mode is one of 1 to 3.
+// The mode, a byte of the format, is one of 1 to 3.
 pub fn first_modes(mode: u8) -> bool
     ensures { result ≡ first_modes mode }
 {

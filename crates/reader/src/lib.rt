@@ -11,13 +11,6 @@ ghost use Rattle.reader.specs.Sizes.{sizes_of, Measured};
 
 use robinx::{Constraint, Season};
 
-// A byte as a number of the machine's width.
-pub fn wide(x: u8) -> usize
-    ensures { (result ≡ x) × (result < 256) }
-{
-    usize::from(x)
-}
-
 // N bytes from a place on.
 fn bytes<const N: usize>(s: &[u8], at: usize) -> [u8; N]
     requires { at + N ≤ length s.now }

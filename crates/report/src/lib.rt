@@ -34,6 +34,7 @@ fn put_broken(season: SeasonView, tally: &[u64], out: &mut [Row]) -> usize
             continue;
         }
         let kind = season.constraint(c).kind;
+        // a cast, since u64 has no From<usize>
         out[count] = [c as u64, u64::from(kind), penalty];
         count += 1;
     }

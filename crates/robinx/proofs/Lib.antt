@@ -22,7 +22,6 @@ pub mod Change
 pub mod Valid
 pub mod Bounds
 pub mod Limits
-pub mod Unknown
 pub mod Moved
 pub mod Passed
 pub mod Accepted

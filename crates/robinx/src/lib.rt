@@ -33,7 +33,8 @@ impl Season {
 // A set of slots: those of a constraint, or of a team's games. Crate `masks` has all that is done with one.
 pub type Slots = u64;
 
-// A constraint: the eight bytes of its head, the three groups of its body.
+// A constraint: the eight bytes of its head, the three groups of its body. They are numbers, as the file has them: a constraint that breaks
+// every rule has to be held too. What a byte stands for is decided in one place each.
 #[derive(Clone, Copy)]
 pub struct Constraint {
     pub kind: u8,

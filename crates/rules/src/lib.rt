@@ -10,7 +10,7 @@ ghost use Rattle.robinx.specs.Rules.{fits, asked, holds, function_fits, keeps};
 ghost use Rattle.rules.specs.CountedBits.{head_keeps, counts_keep, groups_keep, several_keep, sizes_keep};
 
 use groups::size_of;
-use robinx::{Constraint, Field, Slots};
+use robinx::{Constraint, Field, Season, Slots};
 
 // v is in low .. high.
 fn in_range(low: u64, high: u64, v: u64) -> bool
@@ -85,14 +85,14 @@ fn counts_keep(kmin: Field, kmax: Field, w: Field, c: Constraint) -> bool
 }
 
 #[tactic(auto, unfolding(crate::specs::CountedBits::groups_keep))]
-fn groups_keep(t2: Field, s: Field, c: Constraint, n: usize, p: usize) -> bool
-    requires { (1 ≤ n) × (n ≤ most_teams) × (1 ≤ p) × (p ≤ most_slots) }
-    ensures { result ≡ groups_keep t2 s n p c }
+fn groups_keep(t2: Field, s: Field, c: Constraint, z: Season) -> bool
+    requires { (1 ≤ z.teams) × (z.teams ≤ most_teams) × (1 ≤ z.slots) × (z.slots ≤ most_slots) }
+    ensures { result ≡ groups_keep t2 s z.teams z.slots c }
 {
-    let teams = u64::from(groups::everyone(n));
+    let teams = u64::from(groups::everyone(z.teams));
     in_range(1, teams, u64::from(c.t1))
         & holds(t2, c.kmax, teams, u64::from(c.t2))
-        & slots_hold(s, c.kmax, p, c.s)
+        & slots_hold(s, c.kmax, z.slots, c.s)
 }
 
 // One of the groups has more than one team, where the kind asks it.
@@ -124,14 +124,13 @@ pub fn keeps(
     fewest: u8,
     several: bool,
     c: Constraint,
-    n: usize,
-    p: usize,
+    z: Season,
 ) -> bool
-    requires { (1 ≤ n) × (n ≤ most_teams) × (1 ≤ p) × (p ≤ most_slots) }
-    ensures { result ≡ keeps (asks first last squares kmin kmax w t2 s fewest several) n p c }
+    requires { (1 ≤ z.teams) × (z.teams ≤ most_teams) × (1 ≤ z.slots) × (z.slots ≤ most_slots) }
+    ensures { result ≡ keeps (asks first last squares kmin kmax w t2 s fewest several) z.teams z.slots c }
 {
     head_keeps(first, last, squares, c)
         & counts_keep(kmin, kmax, w, c)
-        & groups_keep(t2, s, c, n, p)
+        & groups_keep(t2, s, c, z)
         & sizes_keep(fewest, several, c)
 }

@@ -55,7 +55,7 @@ fn examine_constraints(season: SeasonView) -> Result<Examined, Refusal>
     let sizes = season.sizes;
     let mut entries = 0;
     for c in season.constraints() {
-        if !kind_rules::obeys(c, sizes.teams, sizes.slots) {
+        if !kind_rules::obeys(c, sizes) {
             return Err(Refusal::BadConstraint);
         }
         entries += kinds::entries_of(c);

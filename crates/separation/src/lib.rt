@@ -25,7 +25,7 @@ fn pair_closeness(tables: &Tables, w: u8, p: usize, i: usize, j: usize) -> u32
         tables.meets[i * Season::TEAMS + j],
         tables.meets[j * Season::TEAMS + i],
     );
-    closeness(front(met, p as u64), w)
+    closeness(front(met, p), w)
 }
 
 // The deviations of SE1.

@@ -37,7 +37,7 @@ impl Tables {
     }
 
     // Team t has a game in slot k.
-    fn busy(&self, t: usize, k: u64) -> bool
+    fn busy(&self, t: usize, k: usize) -> bool
         requires { (t < most_teams) × (k < most_slots) }
         ensures { result ≡ busy self.now.home self.now.away t k }
     {
@@ -45,7 +45,7 @@ impl Tables {
     }
 
     // Puts i at home against j into slot k, or says that one of them is busy there and changes nothing.
-    pub fn place(&mut self, i: usize, j: usize, k: u64) -> bool
+    pub fn place(&mut self, i: usize, j: usize, k: usize) -> bool
         requires { (i < most_teams) × (j < most_teams) × (k < most_slots) }
         ensures { Tried result i j (suc k) self.old self.new }
     {
@@ -60,7 +60,7 @@ impl Tables {
     }
 
     // Takes i at home against j out of slot k.
-    pub fn lift(&mut self, i: usize, j: usize, k: u64)
+    pub fn lift(&mut self, i: usize, j: usize, k: usize)
         requires { (i < most_teams) × (j < most_teams) × (k < most_slots) }
         ensures { self.new ≡ taken_out_of i j (suc k) self.old }
     {
@@ -77,7 +77,7 @@ impl Tables {
         ensures { Tried result i j b self.old self.new }
     {
         match b.checked_sub(1) {
-            Some(k) => self.place(usize::from(i), usize::from(j), u64::from(k)),
+            Some(k) => self.place(usize::from(i), usize::from(j), usize::from(k)),
             None => true,
         }
     }
@@ -88,7 +88,7 @@ impl Tables {
         ensures { self.new ≡ taken_out_of i j b self.old }
     {
         if let Some(k) = b.checked_sub(1) {
-            self.lift(usize::from(i), usize::from(j), u64::from(k));
+            self.lift(usize::from(i), usize::from(j), usize::from(k));
         }
     }
 }

@@ -1,4 +1,5 @@
-// The tables of a sheet: built from it, and kept while a game gets another slot or two games exchange theirs.
+// The tables of a sheet: built from it, and kept while a game gets another slot or two games exchange theirs. The games are two lists, home and away
+// teams: of a struct of the two each clause would read games.entry.homes.now.
 
 #![tactic(auto)]
 

@@ -37,7 +37,7 @@ impl Totals {
     }
 }
 
-// A penalty is added to the hard total or to the soft one.
+// A penalty is added to the hard total or to the soft one: `hard` is the constraint's byte, which is asked for here alone.
 pub fn added(t: Totals, hard: u8, p: u64) -> Totals
     ensures { (result.hard ≡ (t.hard + only (hard == 1) p) % 2 ^ 64)
         × (result.soft ≡ (t.soft + only (not (hard == 1)) p) % 2 ^ 64) }
@@ -49,14 +49,14 @@ pub fn added(t: Totals, hard: u8, p: u64) -> Totals
     }
 }
 
-// What was gained less what was lost.
+// What was gained less what was lost. It has a name, since its clause is what the laws of totals are about.
 pub fn change_of(gained: u64, lost: u64) -> u64
     ensures { result ≡ (gained + (2 ^ 64 - lost)) % 2 ^ 64 }
 {
     gained.wrapping_sub(lost)
 }
 
-// A total moved by a change.
+// A total moved by a change; named for the same reason.
 pub fn moved_total(old: u64, change: u64) -> u64
     ensures { result ≡ (old + change) % 2 ^ 64 }
 {

@@ -88,8 +88,8 @@ fn slot_touches(asked: TouchSlots, s: Slots, b: u8) -> bool
         return false;
     };
     match asked {
-        TouchSlots::InS => masks::is_in(s, u64::from(k)),
-        TouchSlots::UpToLastOfS => masks::last_reach(s, u64::from(k)),
+        TouchSlots::InS => masks::is_in(s, usize::from(k)),
+        TouchSlots::UpToLastOfS => masks::last_reach(s, usize::from(k)),
         TouchSlots::AnySlot => true,
     }
 }

@@ -37,7 +37,7 @@ fn trip_figure(c: Constraint, wanted: Slots, trip: Slots) -> u32
 }
 
 // What the run of away games from a slot of S adds: nothing unless it is a trip that ends in S.
-fn run_figure(c: Constraint, away: Slots, home: Slots, wanted: Slots, a: u64) -> u32
+fn run_figure(c: Constraint, away: Slots, home: Slots, wanted: Slots, a: usize) -> u32
     requires { a < most_slots }
     ensures { result ≡ of_run c away home wanted a }
 {
@@ -79,7 +79,7 @@ fn team_figure(c: Constraint, z: Season, tables: &Tables, t: usize) -> u32
     ensures { result ≡ trip_figure z.teams z.slots c (x_of tables.now.meets) t }
 {
     let wanted = against(tables, Sides::Away, c.t2, t, z.teams);
-    let away = front(tables.away[t], z.slots as u64);
+    let away = front(tables.away[t], z.slots);
     off_trips(c, sum_trips(c, away, tables.home[t], wanted))
 }
 

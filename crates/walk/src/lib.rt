@@ -80,7 +80,7 @@ pub fn price(c: Constraint, z: Season, tables: &Tables, stretch: &mut [u32]) -> 
     penalties::penalty(c, stretch)
 }
 
-// Stores the penalty of constraint number k, and adds it and the one that it replaces to the sums.
+// Stores the penalty of constraint number k, and adds it and the one that it replaces to the sums; `hard` is the constraint's byte.
 fn enter(sums: Moved, hard: u8, k: usize, new: u64, tally: &mut [u64]) -> Moved
     requires { k < length tally.old }
     ensures { (tally.new ≡ set tally.old k new)

@@ -4,4 +4,4 @@ use Rattle.masks.proofs.Ends.{first_slot}
 use Rattle.masks.proofs.first.Goals as goal
 
 pub returns : goal.returns
-returns c = rw c.from.ensures (first_slot c.args.m (search rules) c.requires)
+returns c = first_slot c.args.m (search rules) c.requires
