@@ -2,13 +2,11 @@
 use mathlib.Core.Path.{◌≡◌, refl, sym, ap, ap₂, ◌∙◌}
 use mathlib.Core.List.{List, [], ◌∷◌}
 use mathlib.Core.Bool.{Bool, true, false, ◌&&◌, ◌||◌, and_assoc, and_comm}
-use Prim.Native.Nat.{ℕ, ◌+◌, ◌^◌, ◌<◌, ◌≤◌}
+use Prim.Native.Nat.{ℕ, ◌^◌, ◌<◌, ◌≤◌}
 use native.Mathlib.Omega.{arith}
 use native.Mathlib.Nat.{add-zero}
 use lib.Bits.{or_lt}
 use lib.ListN.{length, get_or, set}
-use lib.Seq.{get_or-set_same, get_or-set_other}
-use borrow.Author.Count.{below_more}
 use Rattle.robinx.specs.Season.{most_slots, slots_of}
 use Rattle.robinx.specs.Sums.{sum_to, only}
 use Rattle.robinx.specs.Groups.{bit, has}
@@ -21,7 +19,6 @@ use Rattle.robinx.proofs.Filled.{filled-one}
 use Rattle.robinx.proofs.Bits.{or-has, none-bit, bit-lt}
 use Rattle.tables.specs.declared.Tables.{Tables}
 use Rattle.opponents.specs.Fillable.{Fillable}
-use Rattle.opponents.specs.Games.{MaskOf}
 use Rattle.between.specs.Between.{guests, hosts, MasksOf}
 use Rattle.opponents.proofs.Fillable.{over-slots}
 
@@ -72,17 +69,6 @@ unfolding over
 count-le m S = omega (arith, sum_bound {f = λ k. only (has S k) (bit m k)} most_slots 1 (λ k l. omega (arith, only-le (has S k) (bit m k), bit-lt m k)))
 
 -- .. and per slot
-pub masks-none : (f : ℕ → ℕ → ℕ) (words : List ℕ) → MasksOf f words 0
-masks-none f words = record { mask = λ i l. absurd (omega arith) }
-
-pub masks-more : {f : ℕ → ℕ → ℕ} {words : List ℕ} {i : ℕ} (m : ℕ) → i < length words → MasksOf f words i → MaskOf (f i) m
-    → MasksOf f (set words i m) (i + 1)
-masks-more {f} {words} {i} m l h new = record {
-  mask = below_more (λ t. MaskOf (f t) (get_or (set words i m) t 0)) i
-      (λ t lt. rw (get_or-set_other words i t m 0 (λ e. omega arith)) (h.mask t lt))
-      (rw (get_or-set_same words i m 0 l) new);
-}
-
 pub columns-between : (n : ℕ) (x : X) (d T1 T2 : ℕ) {words : List ℕ} → length words ≡ n → MasksOf (hosts n x d T1 T2) words n
     → (k : ℕ) → k < most_slots → sum_to (λ i. bit (get_or words i 0) k) (length words) ≡ games_between n x d T1 T2 k
 unfolding games_between hosts

@@ -15,7 +15,8 @@ pub fn read_full<R: Read>(input: &mut R, space: &mut [u8]) -> io::Result<usize>
     ensures bytes { IfOk result (λ n. Consumes (R.remaining input.old) (R.remaining input.new) (take n space.new)) }
     ensures end { IfOk result (λ n. n < length space.new → IsAtEnd (R.remaining input.new)) }
 {
-    // no method of std does this: `read_exact` gives no count where the input ends, `read_to_end` needs the heap
+    // no method of std does this: `read_exact` gives no count where the input ends, `read_to_end` needs the heap; and over a space that shrinks
+    // the invariant has no name for what was read, so that proof did not close
     let mut n = 0;
     while n < space.len() {
         let more = input.read(&mut space[n..])?;

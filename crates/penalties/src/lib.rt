@@ -39,7 +39,7 @@ fn combined(function: u8, l: &[u32]) -> u64
     requires { sum l.now < 2 ^ 32 }
     ensures { result ≡ combine function l.now }
 {
-    // the byte of the format is matched here alone
+    // by the byte of the format: an enum would be made here and matched at once, and nowhere else, so it is no plainer
     match function {
         1 => sum(l),
         2 => {

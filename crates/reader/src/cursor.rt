@@ -1,5 +1,5 @@
-// The one reader: it holds the season and its place among the constraints, and gives them one after the other. It is thin: the work is left
-// to `constraint_at`.
+// The reader that walks: it holds the season and its place among the constraints, and gives them one after the other. It is thin: the work is
+// left to `constraint_at`.
 ghost use Rattle.std.specs.Prelude.{◌≡◌, ◌-◌, ◌<◌, ◌≤◌};
 ghost use Rattle.std.specs.Iterator.{at_most};
 ghost use Rattle.robinx.specs.Season.{decode};

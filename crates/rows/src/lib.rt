@@ -53,6 +53,7 @@ pub fn lay(v: Slots, row: &mut [u8])
 {
     let mut before: u64 = 0;
     let mut rest = v;
+    // by the number of the eight: of chunks that are written through, the library says nothing once the loop is over
     for byte in 0..Season::SLOTS / 8 {
         let counts = eight(masks::first_eight(rest)) + before * 0x0101010101010101;
         copy_eight(counts.to_le_bytes(), &mut row[8 * byte..8 * byte + 8]);
@@ -81,7 +82,7 @@ pub fn runs(row: &[u8], w: usize, low: u8, high: u8, n: usize) -> u32
     ensures { result ≡ runs_to row.now w low high n }
 {
     let mut off: u32 = 0;
-    // by index: a zip of the row and its part from w on takes a quarter more instructions
+    // by index: a zip of the row and its part from w on takes a fifth more instructions
     for k in 0..n {
         off += u32::from(outside(low, high, row[k + w].saturating_sub(row[k])));
     }

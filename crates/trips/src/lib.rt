@@ -54,7 +54,7 @@ fn sum_trips(c: Constraint, away: Slots, home: Slots, wanted: Slots) -> u32
 {
     let mut v: u32 = 0;
     let mut rest = common(trip_starts(away, home), c.s);
-    // from one set bit to the next, with no index: a chain over a mask's slots needs an iterator that only this loop would use
+    // from one set bit to the next, with no index: two lines, where an iterator over a mask's slots would be a type with laws
     while is_some(rest) {
         let a = first(rest);
         rest = without(rest, a);

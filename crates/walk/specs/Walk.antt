@@ -35,6 +35,10 @@ abbrev pub SoundTouch : Touch → Type 0
 SoundTouch Everything = Unit {0}
 SoundTouch (Moves teams first second) = SoundMoves teams first second
 
+-- the change is that of these two moves
+abbrev pub MovesOf : Touch → Move → Move → Type 0
+MovesOf τ v w = (teams : ℕ) × (τ ≡ Moves teams v w)
+
 -- which constraints are worked out
 abbrev pub is_touched : Touch → Constraint → Bool
 is_touched Everything c = true

@@ -11,7 +11,7 @@ ghost use Rattle.opponents.specs.Fillable.{Fillable};
 ghost use Rattle.robinx.specs.declared.Constraint.{Constraint};
 ghost use Rattle.touch.specs.Touched.{Possible, touched_by_move};
 ghost use Rattle.totals.specs.RunningTotals.{Adds};
-ghost use Rattle.walk.specs.Walk.{Given, SoundTouch, is_touched, Reworked};
+ghost use Rattle.walk.specs.Walk.{Given, SoundTouch, MovesOf, is_touched, Reworked};
 
 use figures::fill;
 use kinds::form_of;
@@ -42,6 +42,7 @@ pub struct Moved {
 // What two moves touch.
 pub fn moves(first: Move, second: Move) -> Touch
     requires { Possible first × Possible second }
+    ensures moves { MovesOf result first second }
     ensures sound { SoundTouch result }
     ensures touched { (c : Constraint) → is_touched result c ≡ touched_by_move first c || touched_by_move second c }
 {

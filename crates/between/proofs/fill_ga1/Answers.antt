@@ -1,8 +1,8 @@
 -- The games at the venues of T1's teams. Assumes nothing.
-use mathlib.Core.Path.{◌≡◌, ap}
+use mathlib.Core.Path.{◌≡◌}
 use native.Mathlib.Omega.{arith}
 use lib.ListN.{length}
-use Rattle.robinx.specs.Kinds.{kind_of, form_of}
+use Rattle.robinx.specs.Kinds.{form_of}
 use Rattle.robinx.specs.Timetable.{home_side}
 use Rattle.robinx.specs.Deviations.{dev_ga1}
 use Rattle.tables.specs.Tables.{x_of}
