@@ -79,14 +79,3 @@ fn constraint_from(s: &[u8], h: usize, b: usize) -> Constraint
         s: long(s, b + 8),
     }
 }
-
-// Constraint number c.
-#[tactic(auto, using(crate::proofs::Read::sizes_read), unfolding(robinx::specs::Season::decode))]
-pub(crate) fn constraint_at(season: &[u8], z: Season, c: usize) -> Constraint
-    requires { (Measured season.now z) × (c < z.constraints) }
-    ensures { result ≡ (decode season.now).constraint c }
-{
-    let heads = 6 + 2 * z.games;
-    let bodies = heads + 8 * z.constraints;
-    constraint_from(season, heads + 8 * c, bodies + 16 * c)
-}

@@ -34,17 +34,20 @@ impl<'a> SeasonView<'a> {
     }
 
     // Constraint number k.
+    #[tactic(auto, using(crate::proofs::Read::sizes_read), unfolding(robinx::specs::Season::decode))]
     pub fn constraint(self, k: usize) -> Constraint
         requires { k < self.sizes.constraints }
         ensures { result ≡ (decode self.entry.bytes.now).constraint k }
     {
-        super::constraint_at(self.bytes, self.sizes, k)
+        let heads = 6 + 2 * self.sizes.games;
+        let bodies = heads + 8 * self.sizes.constraints;
+        super::constraint_from(self.bytes, heads + 8 * k, bodies + 16 * k)
     }
 
     // All constraints.
     pub fn constraints(self) -> Cursor<'a>
-        ensures { (result.season ≡ self.entry.bytes) × (result.sizes ≡ self.entry.sizes) × (result.at ≡ 0) }
+        ensures { (result.season ≡ self.entry) × (result.at ≡ 0) }
     {
-        Cursor::new(self.bytes, self.sizes)
+        Cursor::new(self)
     }
 }

@@ -9,13 +9,14 @@ use lib.Dec.{ltb}
 use lib.ListN.{length, get_or, set, length-set}
 use lib.Seq.{get_or-set_same, get_or-set_other}
 use borrow.Author.Tests.{leb-false, ltb-false, eqb-false, le-ltb}
+use Rattle.std.proofs.lemmas.Bool.{or_parts}
 use Rattle.robinx.specs.Sums.{any_to}
 use Rattle.robinx.specs.Season.{Instance}
 use Rattle.robinx.specs.Timetable.{clash}
 use Rattle.robinx.specs.Refusals.{sentence8, sentence9, sentence10, sentence11, sentence13}
 use Rattle.robinx.specs.Calls.{Call, moved, of_call}
 use Rattle.robinx.specs.PlainSheet.{plain_fault}
-use Rattle.robinx.proofs.Sums.{or_no, any_none, none_any}
+use Rattle.robinx.proofs.Sums.{any_none, none_any}
 use Rattle.robinx.proofs.Change.{Good}
 use Rattle.robinx.proofs.Passed.{none_true}
 
@@ -40,11 +41,11 @@ module _ (m : Instance) (sheet : List ℕ) (long : length sheet ≡ m.G) (ok : s
   unfolding sentence8
   low a l =
       ltb-false m.P (get_or sheet a 0)
-      (any_none (λ g. ltb m.P (get_or sheet g 0)) m.G (or_no (any_to (λ g. ltb m.P (get_or sheet g 0)) m.G) _ ok).0 a l)
+      (any_none (λ g. ltb m.P (get_or sheet g 0)) m.G (or_parts (any_to (λ g. ltb m.P (get_or sheet g 0)) m.G) _ ok).0 a l)
 
   pub no-clash : clash m.home m.away sheet ≡ false
   unfolding sentence8
-  no-clash = (or_no (any_to (λ g. ltb m.P (get_or sheet g 0)) m.G) _ ok).1
+  no-clash = (or_parts (any_to (λ g. ltb m.P (get_or sheet g 0)) m.G) _ ok).1
 
   pub good : (k : Call) → plain_fault m sheet k ≡ 0 → Good sheet k
   unfolding plain_fault sentence9 sentence11
@@ -53,7 +54,7 @@ module _ (m : Instance) (sheet : List ℕ) (long : length sheet ≡ m.G) (ok : s
       omega (arith, leb-false m.G g c.0)
   good (Call.exchange g h) e =
       let c = none_true (of_call m sheet (Call.exchange g h)) e in
-      let o = or_no (sentence9 m g) (sentence9 m h) c.0 in
+      let o = or_parts (sentence9 m g) (sentence9 m h) c.0 in
       let d = eqb-false g h c.1.0 in
       (omega (arith, leb-false m.G g o.0), omega (arith, leb-false m.G h o.1), λ e. d (sym e))
 
@@ -69,7 +70,7 @@ module _ (m : Instance) (sheet : List ℕ) (long : length sheet ≡ m.G) (ok : s
       clear (set sheet g s) (low-set m sheet g s long low (ltb-false m.P s c.1.0)) c.1.1.0
   opens-again (Call.exchange g h) e =
       let c = none_true (of_call m sheet (Call.exchange g h)) e in
-      let o = or_no (sentence9 m g) (sentence9 m h) c.0 in
+      let o = or_parts (sentence9 m g) (sentence9 m h) c.0 in
       let a : ℕ = get_or sheet g 0 in
       let b : ℕ = get_or sheet h 0 in
       clear

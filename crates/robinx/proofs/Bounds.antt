@@ -7,7 +7,8 @@ use Prim.Native.Nat.{ℕ, zero, suc, ◌+◌, ◌*◌, ◌-◌, ◌^◌, ◌<◌
 use native.Mathlib.Omega.{arith}
 use native.Mathlib.Nat.{mul-le-mul_right, mul-le-mul_left, mul-le-mul, le_trans, le_of_eq}
 use lib.Dec.{eqb, ltb}
-use lib.ListN.{length, get_or}
+use lib.ListN.{get_or}
+use Rattle.std.proofs.lemmas.Bool.{cond_both}
 use Rattle.robinx.specs.Sums.{sum_to, cat_to, only, only_l}
 use Rattle.robinx.specs.Season.{slots_of, most_teams, most_slots, most_byte}
 use Rattle.robinx.specs.Groups.{has, size, is_pair, pairs}
@@ -37,11 +38,6 @@ unfolding sum
 element-le [] i = omega arith
 element-le (a ∷ l) zero = omega arith
 element-le (a ∷ l) (suc i) = omega (arith, element-le l i)
-
-pub sum-length-le : (B : ℕ) (l : List ℕ) → ((i : ℕ) → i < length l → get_or l i 0 ≤ B) → sum l ≤ length l * B
-unfolding sum
-sum-length-le B [] h = omega arith
-sum-length-le B (a ∷ l) h = omega (arith, h 0 (omega arith), sum-length-le B l (λ i k. h (suc i) (omega arith)))
 
 self-le : (s : ℕ) → s ≤ s * s
 self-le zero = omega arith
@@ -74,11 +70,6 @@ combine-le f l = go (eqb f 1) (eqb f 2) (eqb f 3) (eqb f 4)
     go false false true d = squares-le l
     go false false false true = le_trans (smallest-le l) (self-le (sum l))
     go false false false false = le_trans (largest-le l) (self-le (sum l))
-
--- one of two, by any measure
-cond-le : {A : Type 0} (f : A → ℕ) (b : Bool) (u v : A) {B : ℕ} → f u ≤ B → f v ≤ B → f (cond b u v) ≤ B
-cond-le f true u v p q = p
-cond-le f false u v p q = q
 
 -- Lists of one number a member or a pair.
 sum-cat-le : (f : ℕ → List ℕ) {g : ℕ → ℕ} (n : ℕ) → ((k : ℕ) → k < n → sum (f k) ≤ g k) → sum (cat_to f n) ≤ sum_to g n
@@ -114,7 +105,7 @@ module _ (n P : ℕ) (teams : n ≤ most_teams) (slots : P ≤ most_slots) (c : 
   shape-small EachTeam = omega (arith, size-le c.t1 n)
   shape-small EachPair = pairs_small n c.t1 teams
   shape-small OneOrEachSlot =
-      cond-le (λ (v : ℕ). v) (first_modes c.mode) 1 (size P (slots_of c)) (omega arith) (omega (arith, size-le (slots_of c) P))
+      cond_both (first_modes c.mode) 1 (size P (slots_of c)) (λ v. v ≤ 496) (λ e. omega arith) (λ e. omega (arith, size-le (slots_of c) P))
 
   pub entries-small : entries n P c ≤ 496
   unfolding entries
@@ -206,9 +197,9 @@ module _ (n P : ℕ) (teams : n ≤ most_teams) (slots : P ≤ most_slots) (x : 
         (sum_bound (suc P - c.w) 255 (λ a la. omega (arith, sum_bound c.w 1 (λ e le. games_against-le d c.t2 t (a + e) lt (omega arith)))))
         (omega arith))
     bound_of Ca4 =
-        cond-le sum (first_modes c.mode) _ _
-        (omega (arith, over-le most_teams (λ k lk. games_between-le d c.t1 c.t2 k lk)))
-        (le_trans (each-bound P (slots_of c) 255 (λ k lk. omega (arith, games_between-le d c.t1 c.t2 k lk))) (omega arith))
+        cond_both (first_modes c.mode) _ _ (λ l. sum l ≤ 530400)
+        (λ e. omega (arith, over-le most_teams (λ k lk. games_between-le d c.t1 c.t2 k lk)))
+        (λ e. le_trans (each-bound P (slots_of c) 255 (λ k lk. omega (arith, games_between-le d c.t1 c.t2 k lk))) (omega arith))
     bound_of Ca5 = teams-le c.t1 trips-le
     bound_of Ga1 = omega (arith, over-le most_teams (λ k lk. games_between-le home_side c.t1 c.t2 k lk))
     bound_of Br1 = teams-le c.t1 (λ t lt. off-le (first_modes c.mode) (65 * most_byte) (omega (arith, breaks-le t)) (omega arith))

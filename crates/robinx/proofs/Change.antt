@@ -10,6 +10,7 @@ use lib.Dec.{eqb}
 use lib.ListN.{length, get_or, set, length-set}
 use lib.Seq.{get_or-set_same, get_or-set_other, set-get_or}
 use borrow.Author.Tests.{eqb-true}
+use Rattle.std.proofs.lemmas.Bool.{or_parts, and_parts, false_from_ne_true}
 use Rattle.robinx.specs.Sums.{only}
 use Rattle.robinx.specs.Season.{Instance}
 use Rattle.robinx.specs.Timetable.{is_at, meetings}
@@ -18,7 +19,6 @@ use Rattle.robinx.specs.Touch.{scope, hits, touches}
 use Rattle.robinx.specs.Books.{timetable, deviations_at}
 use Rattle.robinx.specs.Calls.{Call, moved, touched_by, touched}
 use Rattle.robinx.specs.declared.Constraint.{Constraint}
-use Rattle.robinx.proofs.Sums.{or_no, and_yes, never}
 use Rattle.robinx.proofs.Ext.{sum-ext}
 use Rattle.robinx.proofs.Agree.{agreement}
 
@@ -27,9 +27,9 @@ abbrev pub PointOf : ℕ → ℕ → ℕ → ℕ → ℕ → ℕ → Type 0
 PointOf i₀ j₀ s i j k = (i₀ ≡ i) × (j₀ ≡ j) × (s ≡ suc k)
 
 elsewhere : (i₀ j₀ s i j k : ℕ) → ¬ PointOf i₀ j₀ s i j k → (eqb i₀ i && eqb j₀ j && eqb s (suc k)) ≡ false
-elsewhere i₀ j₀ s i j k h = never (eqb i₀ i && eqb j₀ j && eqb s (suc k)) (λ e.
-    let p = and_yes (eqb i₀ i && eqb j₀ j) (eqb s (suc k)) e in
-    let q = and_yes (eqb i₀ i) (eqb j₀ j) p.0 in
+elsewhere i₀ j₀ s i j k h = false_from_ne_true (eqb i₀ i && eqb j₀ j && eqb s (suc k)) (λ e.
+    let p = and_parts (eqb i₀ i && eqb j₀ j) (eqb s (suc k)) e in
+    let q = and_parts (eqb i₀ i) (eqb j₀ j) p.0 in
     h (eqb-true i₀ i q.0, eqb-true j₀ j q.1, eqb-true s (suc k) p.1))
 
 pub change-law : (home away sheet : List ℕ) (g b : ℕ) → g < length sheet → (i j k : ℕ)
@@ -69,7 +69,7 @@ kept n P c home away sheet g b fits h = go (eqb a b) refl h
         → deviations n P c (meetings home away sheet) ≡ deviations n P c (meetings home away (set sheet g b))
     go true e u = rw (← eqb-true a b e, set-get_or)
     go false e u =
-        let o = or_no (hits c i₀ j₀ a) (hits c i₀ j₀ b) u in
+        let o = or_parts (hits c i₀ j₀ a) (hits c i₀ j₀ b) u in
         agreement n P (meetings home away sheet) (meetings home away (set sheet g b)) c (λ i j k li lj lk r.
         change-law home away sheet g b fits i j k (unread c i₀ j₀ a i j k o.0 r) (unread c i₀ j₀ b i j k o.1 r))
 
@@ -86,7 +86,7 @@ call_kept m sheet (Call.set_slot g s) c good t = kept m.n m.P (m.constraint c) m
 call_kept m sheet (Call.exchange g h) c good t =
     let a : ℕ = get_or sheet g 0 in
     let b : ℕ = get_or sheet h 0 in
-    let o = or_no (touched_by m sheet g b c) (touched_by m sheet h a c) t in
+    let o = or_parts (touched_by m sheet g b c) (touched_by m sheet h a c) t in
     kept m.n m.P (m.constraint c) m.home m.away sheet g b good.0 o.0
     ∙ kept m.n m.P (m.constraint c) m.home m.away (set sheet g b) h a
     (rw length-set good.1)

@@ -10,6 +10,7 @@ use lib.ListN.{length, get_or}
 use mir.Syntax.{w64}
 use mir.Val.{to_z}
 use borrow.Author.Tests.{eqb-true, not-false}
+use Rattle.std.proofs.lemmas.Bool.{and_parts}
 use Rattle.robinx.specs.Season.{Instance, decode}
 use Rattle.robinx.specs.Penalty.{penalty}
 use Rattle.robinx.specs.Books.{timetable, is_hard, is_soft, all_entries, total, fresh_ledger, fresh_tally}
@@ -19,7 +20,6 @@ use Rattle.robinx.specs.PlainSheet.{plain_fault, unless_fault, plain_next, plain
 use Rattle.robinx.specs.Demands.{next, last, added, afresh, Fresh, Answers, Keeps, AllRight, AddsUp, Demand3}
 use Rattle.robinx.specs.declared.Constraint.{Constraint}
 use Rattle.robinx.specs.declared.Reply.{Reply}
-use Rattle.robinx.proofs.Sums.{and_yes}
 use Rattle.robinx.proofs.Lengths.{length-ledger, length-tally, stretch-fresh}
 use Rattle.robinx.proofs.Change.{Good, call_kept}
 use Rattle.robinx.proofs.Limits.{sound, decode-home, total-small}
@@ -31,8 +31,8 @@ use Rattle.robinx.proofs.Kept.{penalty-held, hard-held, soft-held, fresh_after, 
 pub lengths : (m : Instance) (a b c : ℕ) → sentence7 m a b c ≡ false → (a ≡ m.G) × (b ≡ all_entries m) × (c ≡ m.C + 2)
 unfolding sentence7
 lengths m a b c h =
-    let p = and_yes (eqb a m.G && eqb b (all_entries m)) (eqb c (m.C + 2)) (not-false _ h) in
-    let q = and_yes (eqb a m.G) (eqb b (all_entries m)) p.0 in
+    let p = and_parts (eqb a m.G && eqb b (all_entries m)) (eqb c (m.C + 2)) (not-false _ h) in
+    let q = and_parts (eqb a m.G) (eqb b (all_entries m)) p.0 in
     (eqb-true _ _ q.0, eqb-true _ _ q.1, eqb-true _ _ p.1)
 
 -- the totals of a sheet that passes are small

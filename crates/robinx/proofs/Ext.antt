@@ -8,11 +8,11 @@ use native.Mathlib.Nat.{div-eq_of_lt}
 use lib.Dec.{leb, ltb}
 use lib.Pow.{pow_mono}
 use borrow.Author.Tests.{eqb-true, leb-true, leb-false, le-leb}
+use Rattle.std.proofs.lemmas.Bool.{and_parts}
 use Rattle.robinx.specs.Sums.{sum_to, max_to, cat_to, any_to, only, only_l}
 use Rattle.robinx.specs.Groups.{bit, has, reaches, is_pair}
 use Rattle.robinx.specs.Timetable.{last_was, last_slot}
 use Rattle.robinx.specs.Deviations.{each, each_pair, over, worst}
-use Rattle.robinx.proofs.Sums.{and_yes}
 
 pub only-ext : (b : Bool) {u v : ℕ} → (b ≡ true → u ≡ v) → only b u ≡ only b v
 only-ext true h = h refl
@@ -52,7 +52,7 @@ pub each_pair-ext : (n T : ℕ) {f g : ℕ → ℕ → ℕ}
 unfolding each_pair
 each_pair-ext n T h =
     cat-ext n (λ i li. cat-ext n (λ j lj. only_l-ext (is_pair T i j) (λ e.
-    let m = and_yes (has T i) (has T j) (and_yes (has T i && has T j) (ltb i j) e).0 in
+    let m = and_parts (has T i) (has T j) (and_parts (has T i && has T j) (ltb i j) e).0 in
     ap (λ (v : ℕ). v ∷ []) (h i j li lj m.0 m.1))))
 
 pub over-ext : (P S : ℕ) {f g : ℕ → ℕ} → ((k : ℕ) → k < P → has S k ≡ true → f k ≡ g k) → over P S f ≡ over P S g

@@ -1,17 +1,17 @@
 -- A group's size is the number of its set bits, and its pairs are as many as a triangle has. Assumes nothing.
 use mathlib.Core.Path.{◌≡◌, refl, sym, ap, ap₂, ◌∙◌}
 use mathlib.Core.Bool.{Bool, true, false, and-false, and-true}
-use Prim.Native.Nat.{ℕ, zero, suc, ◌+◌, ◌*◌, ◌/◌, ◌%◌, ◌^◌, ◌<◌, ◌≤◌}
+use Prim.Native.Nat.{ℕ, zero, suc, ◌+◌, ◌*◌, ◌/◌, ◌^◌, ◌<◌, ◌≤◌}
 use native.Mathlib.Omega.{arith}
-use native.Mathlib.Nat.{div-one}
 use native.Mathlib.Numerals.{add-one}
-use lib.Pow.{shr-shr, shr_lt}
+use lib.Pow.{shr_lt}
 use lib.Count.{ones, ones_step}
 use borrow.Author.Tests.{eqb-true, eqb-false, lt-ltb, le-ltb}
+use Rattle.std.proofs.lemmas.Nat.Bits.{bit_at_lowest, bit_at-suc}
 use Rattle.robinx.specs.Sums.{sum_to, only}
 use Rattle.robinx.specs.Groups.{bit, has, size, is_pair, pairs}
 use Rattle.robinx.proofs.Ext.{sum-ext}
-use Rattle.robinx.proofs.Sums.{sum_step, sum-shift, sum-zero, sum-add, sum_bound, sum_mono, only-le}
+use Rattle.robinx.proofs.Sums.{sum_step, sum-shift, sum-zero, sum-add, sum_bound, only-le}
 
 pub only-bit : (T k : ℕ) → only (has T k) 1 ≡ bit T k
 only-bit T k = go (has T k) refl
@@ -20,17 +20,14 @@ only-bit T k = go (has T k) refl
     go true e = sym (eqb-true (bit T k) 1 e)
     go false e = let d = eqb-false (bit T k) 1 e in omega arith
 
-bit-suc : (T k : ℕ) → bit T (suc k) ≡ bit (T / 2) k
-bit-suc T k = ap (λ (v : ℕ). T / 2 ^ v % 2) (omega arith) ∙ ap (λ (v : ℕ). v % 2) (sym (shr-shr T 1 k))
-
 bits-ones : (n T : ℕ) → T < 2 ^ n → sum_to (bit T) n ≡ ones T
 unfolding sum_to ones
 bits-ones zero T h = let e : T ≡ 0 = omega arith in ap ones (sym e)
 bits-ones (suc n) T h =
     sum-shift (bit T) n
     ∙ ap₂ ◌+◌
-    (ap (λ (v : ℕ). v % 2) (div-one T))
-    (sum-ext n (λ k l. bit-suc T k) ∙ bits-ones n (T / 2) (shr_lt n 1 (rw add-one h)))
+    (bit_at_lowest T)
+    (sum-ext n (λ k l. bit_at-suc T k) ∙ bits-ones n (T / 2) (shr_lt n 1 (rw add-one h)))
     ∙ sym (ones_step T)
 
 pub size-ones : (n T : ℕ) → T < 2 ^ n → size n T ≡ ones T
@@ -49,14 +46,6 @@ module _ (T : ℕ) where
   pub size-le : (n : ℕ) → size n T ≤ n
   unfolding size
   size-le n = omega (arith, sum_bound n 1 (λ k l. only-le (has T k) 1))
-
-  pub size_mono : (k n : ℕ) → k ≤ n → size k T ≤ size n T
-  unfolding size
-  size_mono = sum_mono (λ t. only (has T t) 1)
-
-  -- a member below n has a place of its own among the n
-  pub size-lt : (k n : ℕ) → k < n → has T k ≡ true → size k T < size n T
-  size-lt k n l h = omega (arith, size_mono (k + 1) n (omega arith), rw h at (size_step k))
 
   -- the pairs that member n makes with those below it
   lower : (n : ℕ) (b : Bool) → has T n ≡ b → sum_to (λ i. only (is_pair T i n) 1) n ≡ only b (size n T)

@@ -1,5 +1,5 @@
 -- What a season that no sentence refuses gives: its sizes, teams and constraints are in their ranges, and so its figures are small.
-use mathlib.Core.Path.{◌≡◌, subst}
+use mathlib.Core.Path.{◌≡◌}
 use mathlib.Core.Logic.{◌≢◌}
 use mathlib.Core.List.{List}
 use mathlib.Core.Bool.{Bool, true, false, ◌&&◌, ◌||◌, not}
@@ -10,6 +10,7 @@ use lib.Pow.{le_ones, lt_of_le_ones}
 use lib.ListN.{length, get_or, take, drop, length-drop}
 use lib.Seq.{length-take-le}
 use borrow.Author.Tests.{eqb-true, eqb-false, leb-true, leb-false, ltb-false, not-false}
+use Rattle.std.proofs.lemmas.Bool.{or_parts, and_parts}
 use Rattle.robinx.specs.Sums.{sum_to, only}
 use Rattle.robinx.specs.Groups.{size}
 use Rattle.robinx.specs.Season.{Instance, decode, games, season_length, home_teams, away_teams, most_byte, slots_of, most_teams, most_slots, most_games, most_constraints}
@@ -23,28 +24,28 @@ use Rattle.robinx.specs.Refusals.{sentence2, sentence3, encounters, bad_game, se
 use Rattle.robinx.specs.declared.Constraint.{Constraint}
 use Rattle.robinx.specs.declared.Field.{Field}
 use Rattle.robinx.specs.declared.Asks.{Asks}
-use Rattle.robinx.proofs.Sums.{or_no, and_yes, any_none, only-bound, sum_bound}
+use Rattle.robinx.proofs.Sums.{any_none, only-bound, sum_bound}
 use Rattle.robinx.proofs.Valid.{valid}
 use Rattle.robinx.proofs.Bounds.{entries-small, each-small, penalty-small}
 
 -- a number in its range
 pub fits_in : (low high v : ℕ) → fits low high v ≡ true → (low ≤ v) × (v ≤ high)
-fits_in low high v h = let b = and_yes (leb low v) (leb v high) h in (leb-true low v b.0, leb-true v high b.1)
+fits_in low high v h = let b = and_parts (leb low v) (leb v high) h in (leb-true low v b.0, leb-true v high b.1)
 
 -- a season's sizes in their ranges
 pub sizes-in : (n P G C : ℕ) → not (fits 2 most_teams n && fits 1 most_slots P && leb G most_games && leb C most_constraints) ≡ false
     → (2 ≤ n) × (n ≤ most_teams) × (1 ≤ P) × (P ≤ most_slots) × (G ≤ most_games) × (C ≤ most_constraints)
 sizes-in n P G C h =
-    let constraints = and_yes _ _ (not-false _ h) in
-    let games = and_yes _ _ constraints.0 in
-    let slots = and_yes _ _ games.0 in
+    let constraints = and_parts _ _ (not-false _ h) in
+    let games = and_parts _ _ constraints.0 in
+    let slots = and_parts _ _ games.0 in
     let n-in = fits_in 2 most_teams n slots.0 in
     let P-in = fits_in 1 most_slots P slots.1 in
     (n-in.0, n-in.1, P-in.0, P-in.1, leb-true G most_games games.1, leb-true C most_constraints constraints.1)
 
 -- a field is at most its largest value, whatever the row asks
 pub holds-le : (f : Field) (kmax high v : ℕ) → holds f kmax high v ≡ true → v ≤ high
-holds-le f kmax high v h = leb-true v high (and_yes (asked f kmax v) (leb v high) h).1
+holds-le f kmax high v h = leb-true v high (and_parts (asked f kmax v) (leb v high) h).1
 
 -- what the constraint's kind asks
 abbrev pub asks_for : Constraint → Asks
@@ -100,17 +101,17 @@ pub obeyed : (n P : ℕ) (c : Constraint) → obeys n P c ≡ true → Obeys n P
 unfolding obeys keeps
 obeyed n P c h =
     let f = asks_for c in
-    let several = and_yes _ _ h in
-    let fewest = and_yes _ _ several.0 in
-    let s = and_yes _ _ fewest.0 in
-    let t2 = and_yes _ _ s.0 in
-    let t1 = and_yes _ _ t2.0 in
-    let w = and_yes _ _ t1.0 in
-    let kmax = and_yes _ _ w.0 in
-    let kmin = and_yes _ _ kmax.0 in
-    let weight = and_yes _ _ kmin.0 in
-    let function = and_yes _ _ weight.0 in
-    let hard = and_yes _ _ function.0 in
+    let several = and_parts _ _ h in
+    let fewest = and_parts _ _ several.0 in
+    let s = and_parts _ _ fewest.0 in
+    let t2 = and_parts _ _ s.0 in
+    let t1 = and_parts _ _ t2.0 in
+    let w = and_parts _ _ t1.0 in
+    let kmax = and_parts _ _ w.0 in
+    let kmin = and_parts _ _ kmax.0 in
+    let weight = and_parts _ _ kmin.0 in
+    let function = and_parts _ _ weight.0 in
+    let hard = and_parts _ _ function.0 in
     let weight-in = fits_in 1 most_byte c.weight weight.1 in
     let t1-in = fits_in 1 (2 ^ n - 1) c.t1 t1.1 in
     record {
@@ -137,14 +138,6 @@ obeyed n P c h =
       several = several.1;
     }
 
-module _ {n P : ℕ} {c : Constraint} (o : Obeys n P c) where
-  pub known : kind_of c.kind ≢ Unknown
-  unfolding asks_of asks_at
-  known e =
-      let h : fits (asks_of Unknown).first (asks_of Unknown).last c.mode ≡ true =
-      subst (λ k. fits (asks_of k).first (asks_of k).last c.mode ≡ true) e o.mode-in in
-      let b = fits_in 1 0 c.mode h in omega arith
-
 pub record GoodGame (m : Instance) (g : ℕ) : Type 0 where
   pub home : get_or m.home g 0 < m.n
   pub away : get_or m.away g 0 < m.n
@@ -154,9 +147,9 @@ pub record GoodGame (m : Instance) (g : ℕ) : Type 0 where
 good-game : (m : Instance) (g : ℕ) → bad_game m g ≡ false → GoodGame m g
 unfolding bad_game
 good-game m g h =
-    let meetings = or_no _ _ h in
-    let differ = or_no _ _ meetings.0 in
-    let away = or_no _ _ differ.0 in
+    let meetings = or_parts _ _ h in
+    let differ = or_parts _ _ meetings.0 in
+    let away = or_parts _ _ differ.0 in
     record {
       home = leb-false _ _ away.0;
       away = leb-false _ _ away.1;

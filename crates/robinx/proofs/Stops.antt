@@ -1,19 +1,16 @@
 -- What each place from P on keeps, holds at N if it holds at P: so sums and largest values whose terms are 0 from P on may stop at P.
 -- Assumes nothing.
 use mathlib.Core.Path.{◌≡◌, refl, ap, subst, ◌∙◌}
-use Prim.Native.Nat.{ℕ, zero, suc, ◌+◌, ◌-◌, ◌<◌, ◌≤◌}
+use Prim.Native.Nat.{ℕ, suc, ◌+◌, ◌<◌, ◌≤◌}
 use native.Mathlib.Omega.{arith}
+use native.Mathlib.Decide.{le_ind}
 use native.Mathlib.Numerals.{add-one}
-use native.Mathlib.Nat.{add-zero}
 use Rattle.robinx.specs.Sums.{sum_to, max_to}
 
 module _ (P N : ℕ) (l : P ≤ N) where
   pub passed : (F : ℕ → Type 0) → ((k : ℕ) → P ≤ k → k < N → F k → F (k + 1)) → F P → F N
-  passed F keep s = let e : P + (N - P) ≡ N = omega arith in subst F e (go (N - P) (omega arith))
-    where
-      go : (j : ℕ) → P + j ≤ N → F (P + j)
-      go zero h = rw add-zero s
-      go (suc j) h = let e : P + j + 1 ≡ P + suc j = omega arith in subst F e (keep (P + j) (omega arith) (omega arith) (go j (omega arith)))
+  passed F keep s =
+      le_ind (λ k. k ≤ N → F k) (λ h. s) (λ k a ih h. subst F (add-one k) (keep k a (omega arith) (ih (omega arith)))) N l (omega arith)
 
   pub stop : {A : Type 0} (F : ℕ → A) → ((k : ℕ) → P ≤ k → k < N → F (suc k) ≡ F k) → F N ≡ F P
   stop F same = passed (λ k. F k ≡ F P) (λ k a b e. ap F (add-one k) ∙ same k a b ∙ e) refl

@@ -1,27 +1,18 @@
--- Facts about sums, largest values and tests over 0 .. n − 1, and about Bool tests. Assumes nothing.
+-- Facts about sums, largest values and tests over 0 .. n − 1. Assumes nothing.
 use mathlib.Core.Path.{◌≡◌, refl, sym, ap, ◌∙◌}
 use mathlib.Core.List.{List, ◌++◌}
-use mathlib.Core.Bool.{Bool, true, false, ◌&&◌, ◌||◌, or-true, or-false, true≢false}
+use mathlib.Core.Bool.{Bool, true, false, ◌||◌, or-true, or-false, or_comm, true≢false}
 use Prim.Native.Nat.{ℕ, zero, suc, ◌+◌, ◌*◌, ◌<◌, ◌≤◌, max}
 use native.Mathlib.Omega.{arith}
 use native.Mathlib.Numerals.{add-one}
 use native.Mathlib.Nat.{add-zero, add-suc}
-use native.Mathlib.Decide.{ℕ_discrete, dec_lt}
+use native.Mathlib.Decide.{dec_lt, le_ind}
 use lib.Dec.{ltb}
-use borrow.Author.Tests.{lt-ltb, ltb-true}
+use borrow.Author.Tests.{lt-ltb}
+use Rattle.std.specs.Bool.{Decides}
+use Rattle.std.proofs.lemmas.Bool.{false_from_ne_true}
+use Rattle.std.proofs.lemmas.Bool.Decides.{Decides-below_or, not_from_Decides}
 use Rattle.robinx.specs.Sums.{sum_to, max_to, cat_to, any_to, only}
-
-pub or_no : (a b : Bool) → a || b ≡ false → (a ≡ false) × (b ≡ false)
-or_no true b h = absurd (true≢false h)
-or_no false b h = (refl, h)
-
-pub and_yes : (a b : Bool) → a && b ≡ true → (a ≡ true) × (b ≡ true)
-and_yes true b h = (refl, h)
-and_yes false b h = absurd (true≢false (sym h))
-
-pub never : (b : Bool) → (b ≡ true → ⊥) → b ≡ false
-never true h = absurd (h refl)
-never false h = refl
 
 pub only-le : (b : Bool) (v : ℕ) → only b v ≤ v
 only-le true v = omega arith
@@ -104,12 +95,7 @@ max-bound (suc n) B h = omega (arith, max-bound n B (λ k l. h k (omega arith)),
 
 pub sum_mono : (f : ℕ → ℕ) (k n : ℕ) → k ≤ n → sum_to f k ≤ sum_to f n
 unfolding sum_to
-sum_mono f k zero h = let e : k ≡ 0 = omega arith in omega (arith, ap (sum_to f) e)
-sum_mono f k (suc n) h = go (ℕ_discrete k (suc n)) (λ l. sum_mono f k n l)
-  where
-    go : Dec (k ≡ suc n) → (k ≤ n → sum_to f k ≤ sum_to f n) → sum_to f k ≤ sum_to f n + f n
-    go (yes e) ih = omega (arith, ap (sum_to f) e)
-    go (no e) ih = omega (arith, ih (omega arith))
+sum_mono f k n h = le_ind (λ m. sum_to f k ≤ sum_to f m) (omega arith) (λ m l ih. omega (arith, ih)) n h
 
 pub term-le-sum : (f : ℕ → ℕ) (k n : ℕ) → k < n → f k ≤ sum_to f n
 term-le-sum f k n h = omega (arith, sum_step f k, sum_mono f (k + 1) n (omega arith))
@@ -134,30 +120,25 @@ one_at_most p (suc n) d = go (p n) refl (one_at_most p n (λ g h lg. d g h (omeg
   where
     go : (b : Bool) → p n ≡ b → sum_to (λ g. only (p g) 1) n ≤ 1 → sum_to (λ g. only (p g) 1) n + only b 1 ≤ 1
     go true e ih =
-        omega (arith, sum-zero {f = λ g. only (p g) 1} n (λ k l. ap (λ (b : Bool). only b 1) (never (p k) (d n k (omega arith) l e))))
+        omega (arith, sum-zero {f = λ g. only (p g) 1} n (λ k l. ap (λ (b : Bool). only b 1) (false_from_ne_true (p k) (d n k (omega arith) l e))))
     go false e ih = omega arith
 
 -- Tests: what one term says of all, and all of one.
-pub any_none : (p : ℕ → Bool) (n : ℕ) → any_to p n ≡ false → (k : ℕ) → k < n → p k ≡ false
+any-decides : (p : ℕ → Bool) (n : ℕ) → Decides (any_to p n) ((k : ℕ) × (k < n) × (p k ≡ true))
 unfolding any_to
-any_none p zero h k l = let z : ⊥ = omega arith in absurd z
-any_none p (suc n) h k l = go (ℕ_discrete k n) (any_none p n (or_no (any_to p n) (p n) h).0 k)
-  where
-    go : Dec (k ≡ n) → (k < n → p k ≡ false) → p k ≡ false
-    go (yes e) ih = ap p e ∙ (or_no (any_to p n) (p n) h).1
-    go (no e) ih = ih (omega arith)
+any-decides p = Decides-below_or p (λ k. p k ≡ true) (any_to p) (λ k. (λ e. e, λ e. e)) refl (λ n. or_comm (any_to p n) (p n))
 
-pub none_any : (p : ℕ → Bool) (n : ℕ) → ((k : ℕ) → k < n → p k ≡ false) → any_to p n ≡ false
-unfolding any_to
-none_any p zero h = refl
-none_any p (suc n) h = rw (none_any p n (λ k l. h k (omega arith)), h n (omega arith))
+pub some-any : (p : ℕ → Bool) (n : ℕ) → any_to p n ≡ true → (k : ℕ) × (k < n) × (p k ≡ true)
+some-any p n = (any-decides p n).0
 
 pub any_some : (p : ℕ → Bool) (n k : ℕ) → k < n → p k ≡ true → any_to p n ≡ true
-any_some p n k l h = go (any_to p n) refl
-  where
-    go : (b : Bool) → any_to p n ≡ b → b ≡ true
-    go true e = refl
-    go false e = sym (any_none p n e k l) ∙ h
+any_some p n k l h = (any-decides p n).1 (k, l, h)
+
+pub any_none : (p : ℕ → Bool) (n : ℕ) → any_to p n ≡ false → (k : ℕ) → k < n → p k ≡ false
+any_none p n h k l = false_from_ne_true (p k) (λ e. not_from_Decides (any_to p n) (any-decides p n) h (k, l, e))
+
+pub none_any : (p : ℕ → Bool) (n : ℕ) → ((k : ℕ) → k < n → p k ≡ false) → any_to p n ≡ false
+none_any p n h = false_from_ne_true (any_to p n) (λ e. let s = some-any p n e in true≢false (sym s.2 ∙ h s.0 s.1))
 
 pub any-is-sum : (p : ℕ → Bool) (n : ℕ) → any_to p n ≡ ltb 0 (sum_to (λ k. only (p k) 1) n)
 unfolding any_to sum_to
@@ -167,8 +148,3 @@ any-is-sum p (suc n) = go (p n) (sum_to (λ k. only (p k) 1) n) (any-is-sum p n)
     go : (b : Bool) (s : ℕ) → any_to p n ≡ ltb 0 s → any_to p n || b ≡ ltb 0 (s + only b 1)
     go true s ih = or-true (any_to p n) ∙ sym (lt-ltb 0 (s + 1) (omega arith))
     go false s ih = or-false (any_to p n) ∙ ih ∙ ap (ltb 0) (sym (add-zero s))
-
-pub some-any : (p : ℕ → Bool) (n : ℕ) → any_to p n ≡ true → (k : ℕ) × (k < n) × (p k ≡ true)
-some-any p n h =
-    let s = some-term (λ k. only (p k) 1) n (ltb-true 0 _ (sym (any-is-sum p n) ∙ h)) in
-    (s.0, s.1, (only_yes (p s.0) 1 s.2).0)

@@ -7,6 +7,7 @@ use native.Mathlib.Nat.{zero-add, add-zero}
 use native.Mathlib.Decide.{dec_lt}
 use lib.Dec.{leb, ltb}
 use borrow.Author.Tests.{ltb-false, leb-true, lt-ltb, le-ltb, le-leb, lt-leb, not-true}
+use Rattle.std.proofs.lemmas.Bool.{and_parts}
 use Rattle.robinx.specs.Sums.{sum_to, only, any_to}
 use Rattle.robinx.specs.Season.{slots_of}
 use Rattle.robinx.specs.Groups.{has}
@@ -14,7 +15,7 @@ use Rattle.robinx.specs.Timetable.{X, home_side, away_side, games_with, games_in
 use Rattle.robinx.specs.Timetable.{starts_trip, on_trip, along_trip, trip_counts, over_trips}
 use Rattle.robinx.specs.Deviations.{each, over, outside, in_run, trips, trip_games, dev_ca5, dev_br4}
 use Rattle.robinx.specs.declared.Constraint.{Constraint}
-use Rattle.robinx.proofs.Sums.{and_yes, only-le, only_none, sum-split, sum-zero, sum-le, term-le-sum, any_none, none_any, any_some}
+use Rattle.robinx.proofs.Sums.{only-le, only_none, sum-split, sum-zero, sum-le, term-le-sum, any_none, none_any, any_some}
 use Rattle.robinx.proofs.Ext.{sum-ext, each-ext}
 
 -- RobinX's a(i, s1, s2): a trip from slot a to slot b: it starts in a, b is a later slot of it, and none after b is
@@ -46,12 +47,12 @@ module _ (away home : ℕ → Bool) (g : ℕ → ℕ) (none-but-away : (k : ℕ)
   module _ (b : ℕ) (on : on_trip away home a b ≡ true) where
     b-from-a-on : a ≤ b
     unfolding on_trip
-    b-from-a-on = leb-true a b (and_yes (leb a b) (away b) (and_yes (leb a b && away b) _ on).0).0
+    b-from-a-on = leb-true a b (and_parts (leb a b) (away b) (and_parts (leb a b && away b) _ on).0).0
 
     each-away-game-to-b : (k : ℕ) → a ≤ k → k ≤ b → away k ≡ true → on_trip away home a k ≡ true
     unfolding on_trip
     each-away-game-to-b k l l' e =
-        let none : any_to (λ i. leb a i && home i) (suc b) ≡ false = not-true _ (and_yes (leb a b && away b) _ on).1 in
+        let none : any_to (λ i. leb a i && home i) (suc b) ≡ false = not-true _ (and_parts (leb a b && away b) _ on).1 in
         rw (le-leb a k l, e, none_any (λ i. leb a i && home i) (suc k) (λ i h. any_none _ (suc b) none i (omega arith)))
 
     two-games-if-b-later : starts_trip away home a ≡ true → leb 2 (along_trip away home (suc b) a (λ k. 1)) ≡ ltb a b
@@ -62,7 +63,7 @@ module _ (away home : ℕ → Bool) (g : ℕ → ℕ) (none-but-away : (k : ℕ)
         f k = only (on_trip away home a k) 1
 
         first : f a ≡ 1
-        first = rw (each-away-game-to-b a (omega arith) b-from-a-on (and_yes (away a) _ s).0)
+        first = rw (each-away-game-to-b a (omega arith) b-from-a-on (and_parts (away a) _ s).0)
 
         go : Dec (a < b) → leb 2 (sum_to f b + 1) ≡ ltb a b
         go (yes l) = le-leb 2 (sum_to f b + 1) (omega (arith, term-le-sum f a b l, first)) ∙ sym (lt-ltb a b l)

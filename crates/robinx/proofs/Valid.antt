@@ -9,10 +9,11 @@ use native.Mathlib.Nat.{le_trans, le_of_eq, add-zero, zero-add}
 use lib.Dec.{eqb}
 use lib.ListN.{length, get_or}
 use borrow.Author.Tests.{eqb-true, eq-eqb, ne_eqb}
+use Rattle.std.proofs.lemmas.Bool.{and_parts}
 use Rattle.robinx.specs.Sums.{sum_to, only}
 use Rattle.robinx.specs.Timetable.{is_at, meetings, collide, clash}
 use Rattle.robinx.proofs.Ext.{sum-ext}
-use Rattle.robinx.proofs.Sums.{and_yes, any_none, one_at_most, sum-add, sum-zero, sum-le, sum-swap}
+use Rattle.robinx.proofs.Sums.{any_none, one_at_most, sum-add, sum-zero, sum-le, sum-swap}
 
 eq-once : (a n : ℕ) → sum_to (λ j. only (eqb a j) 1) n ≤ 1
 eq-once a n =
@@ -64,7 +65,7 @@ module _ (home away sheet : List ℕ)
   apart t k g h lg lh p q = true≢false (sym hit ∙ no-collision home away sheet ok g h lg lh)
     where
       of : (g : ℕ) → here t k g ≡ true → (eqb (get_or home g 0) t || eqb (get_or away g 0) t ≡ true) × (get_or sheet g 0 ≡ suc k)
-      of g p = let b = and_yes _ _ p in (b.0, eqb-true _ _ b.1)
+      of g p = let b = and_parts _ _ p in (b.0, eqb-true _ _ b.1)
 
       hit : collide home away sheet g h ≡ true
       hit =

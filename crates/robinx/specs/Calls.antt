@@ -1,7 +1,8 @@
 -- Open, set and exchange as functions of what is lent to them (FORMAT 5): for every input they give
 -- the reply and the final contents of sheet, ledger and tally. Set and exchange keep what they do not touch; that what they keep is
 -- right is no part of their text.
-use Rattle.std.specs.Prelude.{List, [], ◌∷◌, ◌++◌, Bool, true, false, ◌&&◌, ◌||◌, cond, ℕ, zero, suc, ◌+◌, ◌-◌, ◌%◌, ◌^◌, ℤ, pos, length, get_or, set, take, drop}
+use Rattle.std.specs.Prelude.{List, [], ◌∷◌, ◌++◌, length, get_or, set, take, drop, Bool, true, false, ◌&&◌, ◌||◌, cond}
+use Rattle.std.specs.Prelude.{ℕ, zero, suc, ◌+◌, ◌-◌, ◌%◌, ◌^◌, ℤ, pos}
 use Rattle.std.specs.Int.{w64}
 use Rattle.std.proofs.Common.{to_z}
 use Rattle.robinx.specs.Sums.{sum_to, cat_to, list_to, only}

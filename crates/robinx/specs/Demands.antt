@@ -1,6 +1,7 @@
 -- The three demands, each one statement about `open_call`, `set_call` and `exchange_call` (Calls.antt), which are what the exported calls are
 -- proved to do. Their theorems are `demand-1`, `demand-2` and `demand-3` in the files Demand1, Demand2 and Demand3 of proofs/.
-use Rattle.std.specs.Prelude.{◌≡◌, ◌≢◌, ◌↔◌, List, [], ◌∷◌, ◌++◌, Bool, true, false, ◌&&◌, ◌||◌, ℕ, zero, suc, ◌+◌, ◌<◌, eqb, ℤ, pos, ◌+ℤ◌, length, get_or}
+use Rattle.std.specs.Prelude.{◌≡◌, ◌≢◌, ◌↔◌, List, [], ◌∷◌, ◌++◌, length, get_or, Bool, true, false, ◌&&◌, ◌||◌}
+use Rattle.std.specs.Prelude.{ℕ, zero, suc, ◌+◌, ◌<◌, eqb, ℤ, pos, ◌+ℤ◌}
 use Rattle.robinx.specs.Sums.{sum_to, only}
 use Rattle.robinx.specs.Season.{Instance, decode}
 use Rattle.robinx.specs.Timetable.{X}

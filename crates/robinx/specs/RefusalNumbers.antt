@@ -1,7 +1,8 @@
 -- The number of each refusal: that of its sentence (FORMAT 6).
 use Rattle.std.specs.Prelude.{ℕ, Result, Ok, Err}
 use Rattle.robinx.specs.declared.Refusal.{Refusal}
-use Rattle.robinx.specs.declared.Refusal.TheVariants.{ShortSeason, SizeOutOfRange, SeasonLength, BadGame, BadConstraint, TooManyDeviations, BufferLength, BadSheet, NoSuchGame, NoSuchSlot, SameGame, UnplacedGame, TeamBusy}
+use Rattle.robinx.specs.declared.Refusal.TheVariants.{ShortSeason, SizeOutOfRange, SeasonLength, BadGame, BadConstraint, TooManyDeviations}
+use Rattle.robinx.specs.declared.Refusal.TheVariants.{BufferLength, BadSheet, NoSuchGame, NoSuchSlot, SameGame, UnplacedGame, TeamBusy}
 
 abbrev pub number_of : Refusal → ℕ
 number_of ShortSeason = 1

@@ -4,6 +4,7 @@
 
 ghost use Rattle.std.specs.Prelude.{◌≡◌};
 ghost use Rattle.robinx.specs.Kinds.{kind_of};
+ghost use Rattle.robinx.specs.Timetable.{first_modes};
 ghost use Rattle.robinx.specs.RefusalNumbers.{number_of};
 
 // The sizes of a season.
@@ -50,6 +51,15 @@ pub struct Constraint {
     pub s: Slots,
 }
 
+impl Constraint {
+    // Its mode is one of 1 to 3: one figure over all slots, or the fewer ones.
+    pub fn first_modes(self) -> bool
+        ensures { result ≡ first_modes self.mode }
+    {
+        self.mode <= 3
+    }
+}
+
 // The kinds by RobinX's names, and what is no kind. That has a row of its own in specs/Kinds.antt: no mode, so that it breaks the rules, and
 // neither deviations nor changes. As a kind it needs no branch anywhere; as the None of an Option it would need one wherever a kind is used.
 #[derive(Clone, Copy, Debug, PartialEq, Eq)]
@@ -69,12 +79,12 @@ pub enum Kind {
     Unknown,
 }
 
-impl Kind {
+impl From<u8> for Kind {
+    ghost from_gives = { λ number kind. kind ≡ kind_of number };
+
     // The kind with this number, decided by its class, then in it: the form that the customer named.
     #[tactic(auto, unfolding(crate::specs::Kinds::kind_of))]
-    pub fn of(number: u8) -> Self
-        ensures { result ≡ kind_of number }
-    {
+    fn from(number: u8) -> Self {
         match number {
             10..=19 => match number {
                 11 => Kind::Ca1,
@@ -201,12 +211,12 @@ pub enum Refusal {
     TeamBusy,
 }
 
-impl Refusal {
+impl From<Refusal> for u8 {
+    ghost from_gives = { λ refusal number. number ≡ number_of refusal };
+
     // The number of the sentence.
-    pub fn number(self) -> u8
-        ensures { result ≡ number_of self }
-    {
-        match self {
+    fn from(refusal: Refusal) -> Self {
+        match refusal {
             Refusal::ShortSeason => 1,
             Refusal::SizeOutOfRange => 2,
             Refusal::SeasonLength => 3,
