@@ -10,10 +10,11 @@ use borrow.Author.Tests.{leb-true, leb-false, lt-leb, eq-eqb, ne_eqb, lt-ltb, le
 use Rattle.std.proofs.lemmas.Bool.Decides.{nat_tests}
 use Rattle.std.proofs.lemmas.Grind.{common_steps}
 use Rattle.std.proofs.Common.{below_more}
+use Rattle.std.proofs.lemmas.Bool.{or_parts}
 use Rattle.robinx.specs.Season.{decode, home_teams, away_teams, most_teams, most_places, most_meetings}
 use Rattle.robinx.specs.Sums.{sum_to, only}
 use Rattle.robinx.specs.Refusals.{is_between, encounters, bad_game, sentence3, sentence4}
-use Rattle.robinx.proofs.Sums.{or_no, sum_step, sum_mono, any_some, none_any}
+use Rattle.robinx.proofs.Sums.{sum_step, sum_mono, any_some, none_any}
 use Rattle.robinx.proofs.Limits.{decode-home}
 use Rattle.games.specs.Meetings.{of_games, pair_at, refused}
 
@@ -76,7 +77,7 @@ module _ {n : ℕ} (small : n ≤ most_teams) {home away counts : List ℕ} {g :
   pub counted-more : refused counts h a n ≡ false → MeetingsCounted n home away (set counts (pair_at h a) (get_or counts (pair_at h a) 0 + 1)) (g + 1)
   unfolding refused
   counted-more e =
-      let free = or_no (leb n h || leb n a || eqb h a) (leb 8 (get_or counts (pair_at h a) 0)) e in
+      let free = or_parts (leb n h || leb n a || eqb h a) (leb 8 (get_or counts (pair_at h a) 0)) e in
       let few = leb-false 8 (get_or counts (pair_at h a) 0) free.1 in
       let f = teams-fit h a n free.0 in
       record {

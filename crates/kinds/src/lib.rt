@@ -50,11 +50,11 @@ pub fn form_of(kind: Kind) -> Form
 pub fn entries_of(c: Constraint) -> usize
     ensures { result ≡ ones_in (form_at c.kind).shape c }
 {
-    match form_of(Kind::of(c.kind)).shape {
+    match form_of(Kind::from(c.kind)).shape {
         Shape::Nothing => 0,
         Shape::One => 1,
         Shape::EachTeam => size_of(c.t1),
         Shape::EachPair => pairs_of(c.t1),
-        Shape::OneOrEachSlot => { if c.mode <= 3 { 1 } else { masks::size(c.s) } }
+        Shape::OneOrEachSlot => { if c.first_modes() { 1 } else { masks::size(c.s) } }
     }
 }

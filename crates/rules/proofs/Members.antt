@@ -5,6 +5,7 @@ use mathlib.Core.Bool.{Bool, true, false, ◌&&◌, ◌||◌, not, and_assoc}
 use Prim.Native.Nat.{ℕ, ◌-◌, ◌^◌, ◌<◌}
 use lib.Dec.{leb}
 use lib.Pow.{lt_of_le_ones}
+use Rattle.std.proofs.lemmas.Bool.{and_parts}
 use Rattle.robinx.specs.Season.{slots_of}
 use Rattle.robinx.specs.Groups.{size}
 use Rattle.robinx.specs.Kinds.{form_at}
@@ -14,7 +15,6 @@ use Rattle.robinx.specs.declared.Constraint.{Constraint}
 use Rattle.robinx.specs.declared.Asks.{Asks}
 use Rattle.robinx.specs.declared.Shape.{Shape}
 use Rattle.robinx.specs.declared.Shape.TheVariants.{Nothing, One, EachTeam, EachPair, OneOrEachSlot}
-use Rattle.robinx.proofs.Sums.{and_yes}
 use Rattle.robinx.proofs.GroupSizes.{size-ones}
 use Rattle.robinx.proofs.Limits.{fits_in, holds-le, obeyed}
 use Rattle.groups.proofs.Pairs.{pairs-in}
@@ -45,8 +45,8 @@ module _ (f : Asks) (n P : ℕ) (c : Constraint) where
   unfolding groups_keep sizes sizes_keep several_keep
   sizes-counted e =
       let teams =
-      and_yes (fits 1 (2 ^ n - 1) c.t1) (holds f.t2 c.kmax (2 ^ n - 1) c.t2)
-      (and_yes _ (holds f.s c.kmax (2 ^ P - 1) (slots_of c)) e).0 in
+      and_parts (fits 1 (2 ^ n - 1) c.t1) (holds f.t2 c.kmax (2 ^ n - 1) c.t2)
+      (and_parts _ (holds f.s c.kmax (2 ^ P - 1) (slots_of c)) e).0 in
       rw (
         size-ones n c.t1 (lt_of_le_ones n (fits_in 1 _ c.t1 teams.0).1),
         size-ones n c.t2 (lt_of_le_ones n (holds-le f.t2 c.kmax _ c.t2 teams.1)),

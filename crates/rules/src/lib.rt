@@ -5,12 +5,11 @@
 
 ghost use Rattle.std.specs.Prelude.{◌≡◌, ◌-◌, ◌≤◌, ◌^◌};
 ghost use Rattle.robinx.specs.Season.{most_teams, most_slots};
-ghost use Rattle.robinx.specs.Kinds.{asks};
 ghost use Rattle.robinx.specs.Rules.{fits, asked, holds, function_fits, keeps};
 ghost use Rattle.rules.specs.CountedBits.{head_keeps, counts_keep, groups_keep, several_keep, sizes_keep};
 
 use groups::size_of;
-use robinx::{Constraint, Field, Season, Slots};
+use robinx::{Asks, Constraint, Field, Season, Slots};
 
 // v is in low .. high.
 fn in_range(low: u64, high: u64, v: u64) -> bool
@@ -20,7 +19,7 @@ fn in_range(low: u64, high: u64, v: u64) -> bool
 }
 
 // What the field of a row asks of v.
-fn asks(f: Field, kmax: u8, v: u64) -> bool
+fn asked(f: Field, kmax: u8, v: u64) -> bool
     ensures { result ≡ asked f kmax v }
 {
     match f {
@@ -35,7 +34,7 @@ fn asks(f: Field, kmax: u8, v: u64) -> bool
 fn holds(f: Field, kmax: u8, high: u64, v: u64) -> bool
     ensures { result ≡ holds f kmax high v }
 {
-    asks(f, kmax, v) & (v <= high)
+    asked(f, kmax, v) & (v <= high)
 }
 
 // What the field of a row asks of S. It is a function of its own, since only the crate masks knows that a mask is a number.
@@ -110,27 +109,15 @@ fn sizes_keep(fewest: u8, several: bool, c: Constraint) -> bool
     (usize::from(fewest) <= size_of(c.t1)) & several_keep(several, c.t1, c.t2)
 }
 
-// Whether a constraint keeps every rule of a kind that asks this. The row comes as single values, so that each call is compiled with its
-// constants.
-pub fn keeps(
-    first: u8,
-    last: u8,
-    squares: bool,
-    kmin: Field,
-    kmax: Field,
-    w: Field,
-    t2: Field,
-    s: Field,
-    fewest: u8,
-    several: bool,
-    c: Constraint,
-    z: Season,
-) -> bool
+// Whether a constraint keeps every rule of a kind that asks this. Always in line, so that a row that is known is folded into the tests: as a
+// call it makes a set 5 to 14 % dearer.
+#[inline(always)]
+pub fn keeps(asks: Asks, c: Constraint, z: Season) -> bool
     requires { (1 ≤ z.teams) × (z.teams ≤ most_teams) × (1 ≤ z.slots) × (z.slots ≤ most_slots) }
-    ensures { result ≡ keeps (asks first last squares kmin kmax w t2 s fewest several) z.teams z.slots c }
+    ensures { result ≡ keeps asks z.teams z.slots c }
 {
-    head_keeps(first, last, squares, c)
-        & counts_keep(kmin, kmax, w, c)
-        & groups_keep(t2, s, c, z)
-        & sizes_keep(fewest, several, c)
+    head_keeps(asks.first, asks.last, asks.squares, c)
+        & counts_keep(asks.kmin, asks.kmax, asks.w, c)
+        & groups_keep(asks.t2, asks.s, c, z)
+        & sizes_keep(asks.fewest, asks.several, c)
 }
