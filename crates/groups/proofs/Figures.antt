@@ -113,9 +113,6 @@ module _ {T : ℕ} {post : ℕ → ℕ → Type 0} {m : Members} where
 
   module _ {v : ℕ} (w : SumIn T post m v) where
     module _ (few : OfMembers most_teams T (λ t. (r : ℕ) → post t r → most_teams * r < 2 ^ 32)) {t u : ℕ} {r : Members} (s : Step m t r) (p : post t u) where
-      pub sum-room : v + u < 2 ^ 32
-      sum-room = let x = s most_teams T w.ahead in omega (arith, w.small, x.on, x.room, few t x.room x.member u p)
-
       pub sum-next : SumIn T post r (v + u)
       sum-next =
           let x = s most_teams T w.ahead in

@@ -1,3 +1,4 @@
 pub mod Pairs
 pub mod MemberWalk
 pub mod Figures
+pub mod FigureWalk

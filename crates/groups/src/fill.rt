@@ -15,6 +15,7 @@ pub fn fill_each<F: Fn(usize) -> u32>(group: u32, figure: F, out: &mut [u32])
     requires callable { OfMembers most_teams group (F.pre figure) }
     ensures { EachFigure group (F.post figure) out.new }
 {
+    // by place: of what a zip of `iter_mut` wrote, the library says nothing once the loop is over
     for (at, t) in Members::of(group).enumerate() {
         out[at] = figure(t);
     }
@@ -41,9 +42,5 @@ pub fn total<F: Fn(usize) -> u32>(group: u32, figure: F) -> u32
     requires small { OfMembers most_teams group (λ t. (r : ℕ) → F.post figure t r → most_teams * r < 2 ^ 32) }
     ensures { TotalFigure group (F.post figure) result }
 {
-    let mut v = 0;
-    for t in Members::of(group) {
-        v += figure(t);
-    }
-    v
+    Members::of(group).map(figure).sum()
 }

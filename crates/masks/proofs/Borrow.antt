@@ -2,6 +2,7 @@
 use Rattle.std.proofs.Common.{◌≡◌, ℕ, zero, suc, ◌+◌, ◌*◌, ◌/◌, ◌%◌, ◌^◌, ◌<◌, ◌≤◌, Bool, true, false, not, ◌&&◌, ◌||◌, eqb, leb}
 use Rattle.std.proofs.Common.{sym, refl, ap, ◌∙◌, div-one, arith, eq-eqb, ne_eqb, le-leb}
 use Rattle.std.specs.Int.{Width, bit_not}
+use Rattle.std.proofs.lemmas.Nat.Bits.{bit_at-suc}
 use mir.Val.{bits}
 use mathlib.Core.Bool.{and-true, and-false, or-true, or-false}
 use native.Mathlib.Decide.{ℕ_discrete, dec_lt}
@@ -10,7 +11,7 @@ use borrow.Author.Tests.{lt-leb}
 use Rattle.robinx.specs.Sums.{only, any_to}
 use Rattle.robinx.specs.Groups.{bit, has}
 use Rattle.robinx.specs.Timetable.{on_trip}
-use Rattle.robinx.proofs.Bits.{at_bits, bit-lt, out-bit, and-has, one_bit, half-bit, mod-bit}
+use Rattle.robinx.proofs.Bits.{at_bits, out-bit, and-has, one_bit, mod-bit}
 use Rattle.robinx.proofs.Sums.{none_any}
 use Rattle.masks.proofs.Carry.{carry, sum-bit}
 use Rattle.masks.proofs.Ends.{rest_has}
@@ -56,14 +57,14 @@ module _ (w : Width) (n d a : ℕ) (h : n < 2 ^ bits w) (less : (d + 2 ^ a) % 2 
   carry_in k = carry (d * 2) (2 ^ a) (suc k)
 
   twice-bit : (k : ℕ) → bit (d * 2) (suc k) ≡ bit d k
-  twice-bit k = let e : d * 2 / 2 ≡ d = omega arith in sym (half-bit (d * 2) k) ∙ ap (λ (z : ℕ). bit z k) e
+  twice-bit k = let e : d * 2 / 2 ≡ d = omega arith in bit_at-suc (d * 2) k ∙ ap (λ (z : ℕ). bit z k) e
 
   sum-here : (k : ℕ) → k < bits w → bit n k ≡ (bit d k + carry_in k) % 2
   unfolding carry_in
   sum-here k l =
       let e : (d * 2 + 2 ^ a * 2) / 2 ≡ d + 2 ^ a = omega arith in
       ap (λ (z : ℕ). bit z k) (sym less) ∙ mod-bit (bits w) k (d + 2 ^ a) l ∙ ap (λ (z : ℕ). bit z k) (sym e)
-      ∙ half-bit (d * 2 + 2 ^ a * 2) k ∙ sum-bit (d * 2) (2 ^ a) (suc k)
+      ∙ sym (bit_at-suc (d * 2 + 2 ^ a * 2) k) ∙ sum-bit (d * 2) (2 ^ a) (suc k)
       ∙ ap (λ (z : ℕ). (z + carry_in k) % 2) (twice-bit k)
 
   -- with a sum of 2 there is a carry, and n has no slot k
@@ -71,7 +72,7 @@ module _ (w : Width) (n d a : ℕ) (h : n < 2 ^ bits w) (less : (d + 2 ^ a) % 2 
   carried_on k true =
       at_bits (λ x y. x ≡ (y + 1) % 2 → (y + 1) / 2 ≡ only (not (eqb x 1)) 1)
       (λ e. omega arith) (λ e. omega arith) (λ e. omega arith) (λ e. omega arith) n d k
-  carried_on k false = λ e. omega (arith, bit-lt d k)
+  carried_on k false = λ e. omega arith
 
   carry_in-where : (k : ℕ) → k ≤ bits w → carry_in k ≡ only (reached k) 1
   unfolding carry_in carry
@@ -85,7 +86,7 @@ module _ (w : Width) (n d a : ℕ) (h : n < 2 ^ bits w) (less : (d + 2 ^ a) % 2 
   set-where k l e = go (reached k) (sym (out-bit n k e) ∙ sum-here k l ∙ rw (carry_in-where k (omega arith)) refl)
     where
       go : (r : Bool) → 0 ≡ (bit d k + only r 1) % 2 → has d k ≡ r
-      go true h = eq-eqb (bit d k) 1 (omega (arith, bit-lt d k))
+      go true h = eq-eqb (bit d k) 1 (omega arith)
       go false h = ne_eqb (bit d k) 1 (λ p. omega arith)
 
   pub trip-has : (m k : ℕ) → k < bits w → has (bit_and (bit_and m d) (bit_not w n)) k ≡ on_trip (has m) (has n) a k

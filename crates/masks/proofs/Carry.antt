@@ -3,7 +3,7 @@
 use Rattle.std.proofs.Common.{◌≡◌, ℕ, zero, suc, ◌+◌, ◌-◌, ◌*◌, ◌/◌, ◌%◌, ◌^◌, ◌<◌, ◌≤◌, min, Bool, cond, ◌&&◌, eqb}
 use Rattle.std.proofs.Common.{sym, refl, ap, ◌∙◌, ap₂, div-one, add-one, arith, shr-shr}
 use Rattle.std.specs.Int.{Width, bit_not}
-use Rattle.std.proofs.lemmas.Nat.Bits.{bit_at_not}
+use Rattle.std.proofs.lemmas.Nat.Bits.{bit_at_not, bit_at_and, bit_at_or}
 use mir.Val.{bits}
 use lib.Bits.{bit_and, bit_or}
 use Rattle.robinx.specs.Sums.{only}
@@ -11,7 +11,7 @@ use Rattle.robinx.specs.Groups.{bit, has}
 use Rattle.robinx.specs.Timetable.{last_was}
 use Rattle.robinx.proofs.Sums.{only-le}
 use Rattle.masks.specs.Masks.{Within, is_break}
-use Rattle.robinx.proofs.Bits.{at_bits, and-bit, or-bit, mod-bit}
+use Rattle.robinx.proofs.Bits.{at_bits, mod-bit}
 
 shr-suc : (n k : ℕ) → n / 2 ^ suc k ≡ n / 2 ^ k / 2
 shr-suc n k = ap (λ (z : ℕ). n / 2 ^ z) (sym (add-one k)) ∙ sym (shr-shr n k 1)
@@ -56,7 +56,7 @@ module _ (w : Width) (side all : ℕ) (h : all < 2 ^ bits w) (part : Within side
   pub carry-breaks : (k : ℕ) → k < bits w → bit (bit_and side ((bit_not w all + side * 2) % 2 ^ bits w)) k ≡ only (is_break side all k) 1
   unfolding last
   carry-breaks k l =
-      and-bit side ((bit_not w all + side * 2) % 2 ^ bits w) k
+      bit_at_and side ((bit_not w all + side * 2) % 2 ^ bits w) k
       ∙ ap (min (bit side k))
       (mod-bit (bits w) k (bit_not w all + side * 2) l ∙ sum-bit (bit_not w all) side k
       ∙ ap₂ (λ (x y : ℕ). (x + y) % 2) (bit_at_not w all k h l) (sym (carried k (omega arith))))
@@ -64,7 +64,4 @@ module _ (w : Width) (side all : ℕ) (h : all < 2 ^ bits w) (part : Within side
 
 -- a mask is within its union with another
 pub within-left : (m n : ℕ) → Within m (bit_or m n)
-within-left m n k = omega (arith, or-bit m n k)
-
-pub within-right : (m n : ℕ) → Within n (bit_or m n)
-within-right m n k = omega (arith, or-bit m n k)
+within-left m n k = omega (arith, bit_at_or m n k)

@@ -1,5 +1,6 @@
 -- The closeness of a mask's games, from one set bit to the next: the slots passed over change nothing.
 use Rattle.std.proofs.Common.{◌≡◌, ℕ, ◌+◌, ◌-◌, ◌*◌, ◌/◌, ◌^◌, ◌<◌, ◌≤◌, Bool, ltb, sym, refl, ap, ◌∙◌, add-one, arith, lt-ltb}
+use Rattle.std.specs.Int.{w64}
 use lib.Count.{count_trailing_zeros}
 use Rattle.robinx.specs.Season.{most_slots}
 use Rattle.robinx.specs.Sums.{only, sum_to}
@@ -45,7 +46,7 @@ found v w k z t {c} b d p q e =
 module _ (v w : ℕ) (h : v < 2 ^ 64) where
   pub summed-first : (v ≡ 0 → ⊥) → Summed v w 0 (v / 2 ^ count_trailing_zeros 64 v / 2)
   unfolding sum_to last_slot
-  summed-first n = found v w 0 (count_trailing_zeros 64 v) (first-turn 64 v h n) {last = 0} (omega arith) (omega arith) refl refl refl
+  summed-first n = found v w 0 (count_trailing_zeros 64 v) (first-turn w64 v h n) {last = 0} (omega arith) (omega arith) refl refl refl
 
   pub summed-next : {c rest r : ℕ} → Summed v w c rest → (rest ≡ 0 → ⊥) → r ≡ w - count_trailing_zeros 64 rest → r ≤ 255
       → Summed v w (c + r) (rest / 2 ^ count_trailing_zeros 64 rest / 2)
@@ -53,7 +54,7 @@ module _ (v w : ℕ) (h : v < 2 ^ 64) where
       let k = s.behind in
       let z = count_trailing_zeros 64 rest in
       let gap : k + z + 1 - k - 1 ≡ z = omega arith in
-      found v w k z (turn 64 v k rest h s.left n) {r = r} s.small b s.sum s.last (rw (lt-ltb 0 k s.some, gap) e)
+      found v w k z (turn w64 v k rest h s.left n) {r = r} s.small b s.sum s.last (rw (lt-ltb 0 k s.some, gap) e)
 
   pub summed-all : {c rest : ℕ} → Summed v w c rest → rest ≡ 0 → c ≡ sum_to (too_close (has v) w) most_slots
   summed-all s e = s.sum ∙ walked v s.behind w s.within (sym e ∙ s.left)

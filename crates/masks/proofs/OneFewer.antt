@@ -1,12 +1,12 @@
 -- A sum over the slots of a mask, over those without one of them, and over none.
 use Rattle.std.proofs.Common.{◌≡◌, ℕ, zero, suc, ◌+◌, ◌<◌, Bool, true, eqb, sym, ap, ◌∙◌, arith}
 use native.Mathlib.Decide.{ℕ_discrete}
+use Rattle.std.proofs.lemmas.Nat.Bits.{bit_at-zero}
 use Rattle.robinx.specs.Sums.{sum_to, only}
 use Rattle.robinx.specs.Groups.{has}
 use Rattle.robinx.specs.Deviations.{over}
 use Rattle.robinx.proofs.Sums.{sum-zero}
 use Rattle.robinx.proofs.Ext.{sum-ext}
-use Rattle.robinx.proofs.Bits.{none-bit}
 use Rattle.masks.specs.Masks.{without}
 use Rattle.masks.proofs.OneSlot.{without-here, without-there}
 
@@ -22,7 +22,7 @@ sum-but-one {f} {g} (suc n) a l h e = go (ℕ_discrete n a) (λ l. sum-but-one n
 
 pub over_none : (P : ℕ) (g : ℕ → ℕ) → over P 0 g ≡ 0
 unfolding over
-over_none P g = sum-zero P (λ k l. ap (λ (z : ℕ). only (eqb z 1) (g k)) (none-bit k))
+over_none P g = sum-zero P (λ k l. ap (λ (z : ℕ). only (eqb z 1) (g k)) (bit_at-zero k))
 
 pub over-one-fewer : (P m a : ℕ) (g : ℕ → ℕ) → a < P → has m a ≡ true → over P m g ≡ g a + over P (without m a) g
 unfolding over

@@ -1,5 +1,5 @@
 -- Masks of slots as plain numbers of any width.
-use Rattle.std.specs.Prelude.{◌≡◌, ℕ, ◌^◌, ◌<◌, ◌≤◌, Bool, true, false, ◌&&◌, bit_or, bit_xor}
+use Rattle.std.specs.Prelude.{◌≡◌, ℕ, ◌+◌, ◌^◌, ◌<◌, ◌≤◌, Bool, true, false, ◌&&◌, bit_or, bit_xor}
 use Rattle.robinx.specs.Season.{most_slots}
 use Rattle.robinx.specs.Sums.{only}
 use Rattle.robinx.specs.Groups.{bit, has}
@@ -16,6 +16,10 @@ without m k = bit_xor (bit_or m (2 ^ k)) (2 ^ k)
 -- every slot of m is one of n
 abbrev pub Within : ℕ → ℕ → Type 0
 Within m n = (k : ℕ) → bit m k ≤ bit n k
+
+-- no slot is in both
+abbrev pub Apart : ℕ → ℕ → Type 0
+Apart m n = (k : ℕ) → k < most_slots → bit m k + bit n k ≤ 1
 
 -- of the first n slots the mask has those that pass the test
 abbrev pub Marks : ℕ → (ℕ → Bool) → ℕ → Type 0

@@ -3,13 +3,13 @@
 
 #![tactic(auto)]
 
-ghost use Rattle.std.specs.Prelude.{◌≡◌, ◌-◌, ◌/◌, ◌%◌, ◌^◌, ◌<◌, ◌≤◌, ◌==◌, bit_and, bit_or, count_ones, nat_le};
+ghost use Rattle.std.specs.Prelude.{◌≡◌, ◌+◌, ◌-◌, ◌/◌, ◌%◌, ◌^◌, ◌<◌, ◌≤◌, ◌==◌, bit_and, bit_or, count_ones, nat_le};
 ghost use Rattle.robinx.specs.Season.{most_slots};
 ghost use Rattle.robinx.specs.Sums.{only, sum_to};
 ghost use Rattle.robinx.specs.Groups.{bit, has, reaches};
 ghost use Rattle.robinx.specs.Timetable.{last_was, starts_trip, on_trip};
 ghost use Rattle.robinx.specs.Deviations.{over, too_close};
-ghost use Rattle.masks.specs.Masks.{joined, without, Within, is_break, Breaks, Marks, First};
+ghost use Rattle.masks.specs.Masks.{joined, without, Within, Apart, is_break, Breaks, Marks, First};
 
 use robinx::{Season, Slots};
 
@@ -178,12 +178,12 @@ fn break_mask(side: Slots, all: Slots) -> Slots
     side & (!all).wrapping_add(side << 1)
 }
 
-// The breaks of a side in the slots of s.
-pub fn breaks_in(side: Slots, all: Slots, s: Slots) -> u32
-    requires { Within side all }
-    ensures { result ≡ over most_slots s (λ k. only (is_break side all k) 1) }
+// The breaks of home games and those of away games in the slots of s. No slot has both, so one count is enough.
+pub fn breaks_of(home: Slots, away: Slots, all: Slots, s: Slots) -> u32
+    requires { Within home all × Within away all × Apart home away }
+    ensures { result ≡ over most_slots s (λ k. only (is_break home all k) 1 + only (is_break away all k) 1) }
 {
-    count_in(break_mask(side, all), s)
+    count_in(union(break_mask(home, all), break_mask(away, all)), s)
 }
 
 // The first slots of the runs of away games: those of away games that are no break.

@@ -20,7 +20,7 @@ use Rattle.robinx.proofs.Sums.{sum_bound, sum-split}
 use Rattle.robinx.proofs.Ext.{sum-ext}
 use Rattle.robinx.proofs.Lengths.{list_at}
 use Rattle.rows.specs.Rows.{up_to, packed}
-use Rattle.robinx.proofs.Bits.{bit-lt, shift-bit, mod-bit}
+use Rattle.robinx.proofs.Bits.{shift-bit, mod-bit}
 
 -- below n, f is a byte
 abbrev Bytes : (ℕ → ℕ) → ℕ → Type 0
@@ -49,7 +49,7 @@ packed_more f g q (suc n) h = omega (arith, h 0 (omega arith), packed_more (λ j
 
 -- a count is no more than its slots
 pub count-le : (v n : ℕ) → sum_to (bit v) n ≤ n
-count-le v n = omega (arith, sum_bound {f = bit v} n 1 (λ k l. omega (arith, bit-lt v k)))
+count-le v n = omega (arith, sum_bound {f = bit v} n 1 (λ k l. omega arith))
 
 -- the word of the counts up to slots k .. k + 7 of v
 abbrev pub Counts : ℕ → ℕ → ℕ → Type 0

@@ -69,6 +69,8 @@ pub fn farthest(a: &Row, b: &Row, marks: &Row) -> u8
     a.iter().zip(b).zip(marks).fold(0, |far, ((&x, &y), &mark)| far.max(mark.min(x.abs_diff(y))))
 }
 
+// In u8, though crate `opponents` has it in u32 for counts that need it: by that one, each count widened, a set is 2 to 9 % dearer. One function
+// generic in the two would need a trait of its own, since saturating_sub is no method of one of std's.
 fn outside(low: u8, high: u8, count: u8) -> u8
     ensures { result ≡ outside low high count }
 {

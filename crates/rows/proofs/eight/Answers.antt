@@ -6,8 +6,9 @@ use native.Mathlib.Omega.{arith}
 use lib.Bits.{bit_and, and_le_r}
 use lib.Dec.{eqb, ltb}
 use borrow.Author.Tests.{eqb-true, ltb-true, not-false}
+use Rattle.std.proofs.lemmas.Bool.{and_parts}
 use Rattle.robinx.specs.Sums.{sum_to, any_to}
-use Rattle.robinx.proofs.Sums.{any_none, and_yes}
+use Rattle.robinx.proofs.Sums.{any_none}
 use Rattle.rows.specs.Rows.{up_to, packed}
 use Rattle.rows.proofs.eight.Goals as goal
 use Rattle.rows.proofs.eight.Goals.{Start}
@@ -32,7 +33,7 @@ whole : (c : Start) → (word c.args.b < 2 ^ 64) × (word c.args.b ≡ packed (u
 unfolding right
 whole c =
     let b = c.args.b in
-    let r = and_yes _ _ (not-false _ (any_none (λ b. not (right b)) 256 none-wrong b c.requires)) in
+    let r = and_parts _ _ (not-false _ (any_none (λ b. not (right b)) 256 none-wrong b c.requires)) in
     (ltb-true (word b) (2 ^ 64) r.0, eqb-true (word b) (packed (up_to b) 8) r.1)
 
 pub overflow_add-one : goal.overflow_add-one

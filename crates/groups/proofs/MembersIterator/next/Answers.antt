@@ -1,6 +1,7 @@
 -- `groups::Members::next` meets its contract: as many places are passed over as `rest` has zeros below its lowest set bit. Assumes nothing.
 use Rattle.std.proofs.Common.{refl, arith, pow_mono, shr-shr, shr_lt, zero-add, ◌≡◌, ◌+◌, ◌-◌, ◌<◌, ◌≤◌}
 use lib.Count.{count_trailing_zeros}
+use Rattle.std.specs.Int.{w32}
 use Rattle.robinx.specs.Season.{most_teams}
 use Rattle.robinx.proofs.SetBits.{in-below, turn, first-turn}
 use Rattle.groups.specs.declared.Members.{Members}
@@ -11,7 +12,7 @@ team : (m : Members) → (m.rest ≡ 0 → ⊥) → m.at + count_trailing_zeros 
 team m some =
     let left = most_teams - m.at in
     let small : left ≤ 32 = omega arith in
-    let t = first-turn 32 m.rest (omega (arith, m.teams, pow_mono small)) some in
+    let t = first-turn w32 m.rest (omega (arith, m.teams, pow_mono small)) some in
     omega (arith, m.room, in-below m.rest left m.teams (count_trailing_zeros 32 m.rest) (rw zero-add at t.set))
 
 pub invariant_of-self-clause-room : goal.invariant_of-self-clause-room
@@ -30,7 +31,7 @@ returns-clause-steps c =
       team m c.if-self-eq0.false,
       omega arith,
       λ n T a.
-          let t = turn 32 T m.at m.rest (omega (arith, pow_mono a.teams)) a.left c.if-self-eq0.false in
+          let t = turn w32 T m.at m.rest (omega (arith, pow_mono a.teams)) a.left c.if-self-eq0.false in
           let room = in-below T n a.group (m.at + count_trailing_zeros 32 m.rest) t.set in
           record {
             on = omega arith;

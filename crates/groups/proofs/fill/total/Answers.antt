@@ -1,15 +1,19 @@
--- `groups::fill::total` meets its contract: before each turn the figures of the members passed are added up. Assumes nothing.
-use Rattle.groups.proofs.Figures.{sum-in, sum-room, sum-next, sum-all-in}
+-- `groups::fill::total` meets its contract. Assumes nothing.
+use Rattle.groups.proofs.FigureWalk.{map-callable, sum-fits, sum-total}
 use Rattle.groups.proofs.fill.total.Goals as goal
 
-pub loop-t-init : goal.loop-t-init
-loop-t-init g c = rw c.into_iter-t-iterator.ensures.into_iter_gives (sum-in c.of-t-items.ensures c.ranges.group.fits)
+pub sum-requires-clause-can : goal.sum-requires-clause-can
+sum-requires-clause-can g c =
+    let m = c.map.ensures in
+    (tt, map-callable g.F.Fn g.met.F.Fn.1 c.map.result c.args.figure m.closure m.source c.of.ensures c.ranges.group.fits c.requires.callable)
 
-pub overflow_add-v : goal.overflow_add-v
-overflow_add-v g c = record { fits = sum-room c.loop-t.invariant c.requires.small c.in-Some.ensures.steps.2 c.figure-v.ensures }
-
-pub loop-t-preserved : goal.loop-t-preserved
-loop-t-preserved g c = sum-next c.loop-t.invariant c.requires.small c.in-Some.ensures.steps.2 c.figure-v.ensures
+pub sum-requires-clause-fits : goal.sum-requires-clause-fits
+sum-requires-clause-fits g c =
+    let m = c.map.ensures in
+    sum-fits g.F.Fn g.met.F.Fn.1 c.map.result c.args.figure m.closure m.source c.of.ensures c.ranges.group.fits g.met.F.FnMut.1 c.requires.small
 
 pub returns : goal.returns
-returns g c = sum-all-in c.loop-t.invariant c.in-None.ensures.steps.0
+returns g c =
+    let m = c.map.ensures in
+    sum-total g.F.Fn g.met.F.Fn.1 c.map.result c.args.figure m.closure m.source c.of.ensures c.ranges.group.fits g.met.F.FnMut.1 c.requires.small
+    c.sum.ensures.ran
