@@ -1,30 +1,36 @@
 -- Games between two groups are the games that each team hosts against the opponents counted for it. Assumes nothing.
+use Rattle.std.proofs.lemmas.Nat.Bits.{bit_at-zero}
 use mathlib.Core.Path.{◌≡◌, refl, sym, ap, ap₂, ◌∙◌}
-use mathlib.Core.List.{List, [], ◌∷◌}
+use mathlib.Core.List.{List, [], ◌∷◌, map-id}
 use mathlib.Core.Bool.{Bool, true, false, ◌&&◌, ◌||◌, and_assoc, and_comm}
-use Prim.Native.Nat.{ℕ, ◌^◌, ◌<◌, ◌≤◌}
+use Prim.Native.Nat.{ℕ, zero, suc, ◌+◌, ◌^◌, ◌<◌, ◌≤◌}
 use native.Mathlib.Omega.{arith}
 use native.Mathlib.Nat.{add-zero}
+use native.Mathlib.Numerals.{add-one}
 use lib.Bits.{or_lt}
 use lib.ListN.{length, get_or, set}
+use Rattle.std.specs.List.{sum_by, range_with_len}
+use Rattle.std.proofs.lemmas.List.FromFn.{sum_by-map-range_with_len_more}
+use Rattle.std.proofs.lemmas.List.Recursion.{is_sum_by}
 use Rattle.robinx.specs.Season.{most_slots, slots_of}
 use Rattle.robinx.specs.Sums.{sum_to, only}
 use Rattle.robinx.specs.Groups.{bit, has}
 use Rattle.robinx.specs.Timetable.{X, home_side, games_with, games_against, between, games_between}
 use Rattle.robinx.specs.Deviations.{over, outside}
-use Rattle.robinx.proofs.Sums.{sum-zero, sum-swap, sum_bound, only-le}
+use Rattle.robinx.proofs.Sums.{sum-shift, sum-zero, sum-swap, sum-le, sum_bound, only-le}
 use Rattle.robinx.proofs.Ext.{sum-ext}
 use Rattle.robinx.specs.declared.Constraint.{Constraint}
 use Rattle.robinx.proofs.Filled.{filled-one}
-use Rattle.robinx.proofs.Bits.{or-has, none-bit, bit-lt}
+use Rattle.robinx.proofs.Bits.{or-has}
 use Rattle.tables.specs.declared.Tables.{Tables}
-use Rattle.opponents.specs.Fillable.{Fillable}
+use Rattle.tables.specs.Tables.{x_of}
+use Rattle.opponents.specs.Checkable.{Checkable}
 use Rattle.between.specs.Between.{guests, hosts, MasksOf}
-use Rattle.opponents.proofs.Fillable.{over-slots}
+use Rattle.opponents.proofs.Checkable.{over-slots}
 
 only-has : (b : Bool) (m k : ℕ) → has (only b m) k ≡ b && has m k
 only-has true m k = refl
-only-has false m k = rw (none-bit k)
+only-has false m k = rw (bit_at-zero k)
 
 pub guests-has : (d T1 T2 i j : ℕ) → has (guests d T1 T2 i) j ≡ between d T1 T2 i j
 unfolding between
@@ -64,20 +70,45 @@ pub hosted-over : (n : ℕ) (x : X) (d T1 T2 S : ℕ)
 unfolding games_between hosts
 hosted-over n x d T1 T2 S = sym (over-sum most_slots S (hosts n x d T1 T2) n)
 
-pub count-le : (m S : ℕ) → over most_slots S (bit m) ≤ most_slots
-unfolding over
-count-le m S = omega (arith, sum_bound {f = λ k. only (has S k) (bit m k)} most_slots 1 (λ k l. omega (arith, only-le (has S k) (bit m k), bit-lt m k)))
+-- a team has one game a slot at most
+pub hosted-le : {n P : ℕ} {c : Constraint} {ts : Tables} → Checkable n P c ts → (S d T1 T2 i : ℕ) → i < n
+    → over most_slots S (hosts n (x_of ts.meets) d T1 T2 i) ≤ most_slots
+unfolding over hosts
+hosted-le {n} {ts = ts} r S d T1 T2 i l =
+    omega (
+      arith,
+      sum_bound {f = λ k. only (has S k) (hosts n (x_of ts.meets) d T1 T2 i k)} most_slots 1 (λ k lk.
+          omega (
+            arith,
+            only-le (has S k) (hosts n (x_of ts.meets) d T1 T2 i k),
+            sum-le {f = λ j. only (between d T1 T2 i j) (x_of ts.meets i j k)} n (λ j lj. only-le (between d T1 T2 i j) (x_of ts.meets i j k)),
+            r.tied.home-row i k l lk,
+            r.tied.once i k l lk,
+          )),
+    )
+
+-- sums in std's words: of a list by its places, and of the numbers below n
+sum_to-places : (f : ℕ → ℕ) (l : List ℕ) → sum_to (λ i. f (get_or l i 0)) (length l) ≡ sum_by f l
+unfolding sum_to
+sum_to-places f = is_sum_by (λ l. sum_to (λ i. f (get_or l i 0)) (length l)) f refl (λ x l. sum-shift (λ i. f (get_or (x ∷ l) i 0)) (length l))
+
+pub sum_to-range : (f : ℕ → ℕ) (n : ℕ) → sum_to f n ≡ sum_by f (range_with_len 0 n)
+unfolding sum_to
+sum_to-range f zero = refl
+sum_to-range f (suc n) =
+    ap (λ (v : ℕ). v + f n) (sum_to-range f n)
+    ∙ sym (rw (add-one n, map-id, map-id) at (sum_by-map-range_with_len_more f (λ k. k) 0 n n (omega arith)))
 
 -- .. and per slot
 pub columns-between : (n : ℕ) (x : X) (d T1 T2 : ℕ) {words : List ℕ} → length words ≡ n → MasksOf (hosts n x d T1 T2) words n
-    → (k : ℕ) → k < most_slots → sum_to (λ i. bit (get_or words i 0) k) (length words) ≡ games_between n x d T1 T2 k
+    → (k : ℕ) → k < most_slots → sum_by (λ word. bit word k) words ≡ games_between n x d T1 T2 k
 unfolding games_between hosts
-columns-between n x d T1 T2 e h k l = rw e (sum-ext n (λ i li. h.mask i li k l))
+columns-between n x d T1 T2 {words} e h k l = rw (← sum_to-places (λ word. bit word k) words, e) (sum-ext n (λ i li. h.mask i li k l))
 
 -- The constraint's own groups.
-module _ {n P : ℕ} {c : Constraint} {ts : Tables} {out : List ℕ} (r : Fillable n P c ts out) where
-  pub one-figure : (x : X) (d : ℕ) {g v : ℕ} → length out ≡ 1
+module _ {n P : ℕ} {c : Constraint} {ts : Tables} (r : Checkable n P c ts) where
+  pub one-figure : (out : List ℕ) (x : X) (d : ℕ) {g v : ℕ} → length out ≡ 1
       → g ≡ over most_slots (slots_of c) (games_between n x d c.t1 c.t2) → v ≡ outside c.kmin c.kmax g
       → set out 0 v ≡ outside c.kmin c.kmax (over P (slots_of c) (games_between n x d c.t1 c.t2)) ∷ []
-  one-figure x d {g} {v} l e f =
+  one-figure out x d {g} {v} l e f =
       filled-one out v l ∙ ap (λ (w : ℕ). w ∷ []) (f ∙ ap (outside c.kmin c.kmax) (e ∙ over-slots r _))

@@ -4,7 +4,14 @@ use Rattle.std.specs.Int.Bits.{bit_or}
 use Rattle.robinx.specs.Sums.{sum_to, only}
 use Rattle.robinx.specs.Groups.{has}
 use Rattle.robinx.specs.Timetable.{X, between}
+use Rattle.tables.specs.Tables.{x_of}
 use Rattle.opponents.specs.Games.{MaskOf}
+use Rattle.opponents.specs.Sides.{code_of}
+use Rattle.between.specs.declared.Meetings.{Meetings}
+
+-- what a definition over teams, timetable, sides and two groups says of some meetings
+abbrev pub of_meetings : {A : Type 0} → (ℕ → X → ℕ → ℕ → ℕ → A) → Meetings → A
+of_meetings f m = f m.check.now.sizes.teams (x_of m.check.now.tables.now.meets) (code_of m.sides) m.check.now.constraint.t1 m.check.now.constraint.t2
 
 -- the teams that team i hosts in a game that is counted
 abbrev pub guests : ℕ → ℕ → ℕ → ℕ → ℕ

@@ -2,79 +2,74 @@
 
 #![tactic(auto)]
 
-ghost use Rattle.std.specs.Prelude.{◌≡◌, ◌&&◌, ◌+◌, ◌<◌, ◌≤◌, ◌^◌, length, get_or};
-ghost use Rattle.robinx.specs.Season.{most_teams, most_slots};
-ghost use Rattle.robinx.specs.Sums.{sum_to, only};
+ghost use Rattle.std.specs.Prelude.{◌≡◌, ◌<◌, ◌≤◌, length};
+ghost use Rattle.std.specs.List.{sum_by};
+ghost use Rattle.robinx.specs.Season.{most_teams, most_slots, slots_of};
 ghost use Rattle.robinx.specs.Groups.{bit, size};
 ghost use Rattle.robinx.specs.Timetable.{games_between};
 ghost use Rattle.robinx.specs.Kinds.{kind_of};
 ghost use Rattle.robinx.specs.declared.Kind.TheVariants.{Ca4, Ga1};
 ghost use Rattle.robinx.specs.Deviations.{each, over, outside, dev_ca4, dev_ga1};
-ghost use Rattle.tables.specs.Tables.{x_of};
-ghost use Rattle.opponents.specs.Fillable.{Fillable, TiedGroup};
+ghost use Rattle.opponents.specs.Figures.{HasRoom, of_check};
 ghost use Rattle.opponents.specs.Games.{MaskOf};
 ghost use Rattle.opponents.specs.Sides.{code_of};
-ghost use Rattle.between.specs.Between.{guests, hosts, MasksOf};
+ghost use Rattle.between.specs.Between.{guests, hosts, MasksOf, of_meetings};
 
-use opponents::against;
-use opponents::measure::{Sides, first_modes, outside};
-use robinx::{Constraint, Season, Slots};
-use tables::Tables;
+use opponents::check::Check;
+use opponents::measure::{Sides, outside};
+use robinx::{Season, Slots};
 
-// The games that a team of T1 plays on one of the sides against a team of T2.
+// The games that a team of T1 plays on one of the sides against a team of T2, the groups of the check's constraint.
 #[derive(Clone, Copy)]
-struct Meetings {
+struct Meetings<'a> {
+    check: &'a Check<'a>,
     sides: Sides,
-    t1: u32,
-    t2: u32,
 }
 
-impl Meetings {
+impl Meetings<'_> {
     // The teams whose games at team i's venue count.
     fn guests(self, i: usize) -> u32
         requires { i < most_teams }
-        ensures { result ≡ guests (code_of self.sides) self.t1 self.t2 i }
+        ensures { result ≡ guests (code_of self.entry.sides) self.entry.check.now.constraint.t1 self.entry.check.now.constraint.t2 i }
     {
-        let of_home = if self.sides.asks_home() && groups::is_in(self.t1, i) {
-            self.t2
-        } else {
-            0
-        };
-        let of_away = if self.sides.asks_away() && groups::is_in(self.t2, i) {
-            self.t1
-        } else {
-            0
-        };
-        of_home | of_away
+        let c = self.check.constraint;
+        let of_home = (self.sides.asks_home() && groups::is_in(c.t1, i)).then_some(c.t2);
+        let of_away = (self.sides.asks_away() && groups::is_in(c.t2, i)).then_some(c.t1);
+        of_home.unwrap_or(0) | of_away.unwrap_or(0)
     }
 
     // The slots of these games.
-    fn hosted(self, n: usize, tables: &Tables, i: usize) -> Slots
-        requires { (i < n) × TiedGroup n self.t1 tables.now × (self.t2 < 2 ^ n) }
-        ensures { MaskOf (hosts n (x_of tables.now.meets) (code_of self.sides) self.t1 self.t2 i) result }
+    fn hosted(self, i: usize) -> Slots
+        requires { i < self.check.now.sizes.teams }
+        ensures { MaskOf (of_meetings hosts self.entry i) result }
     {
-        against(tables, Sides::Home, self.guests(i), i, n)
+        self.check.against(Sides::Home, self.guests(i), i)
     }
 
-    // The games in the slots of s.
-    fn games_in(self, s: Slots, n: usize, tables: &Tables) -> u32
-        requires { TiedGroup n self.t1 tables.now × (self.t2 < 2 ^ n) }
-        ensures { result ≡ over most_slots s (games_between n (x_of tables.now.meets) (code_of self.sides) self.t1 self.t2) }
+    // .. and the games in S.
+    fn hosted_in_s(self, i: usize) -> u32
+        requires { i < self.check.now.sizes.teams }
+        ensures { result ≡ over most_slots (slots_of self.entry.check.now.constraint) (of_meetings hosts self.entry i) }
     {
-        let mut v = 0;
-        for i in 0..n {
-            v += masks::count_in(self.hosted(n, tables, i), s);
-        }
-        v
+        masks::count_in(self.hosted(i), self.check.constraint.s)
     }
 
-    // The mask of each team's games of `hosted`, a word for each of the n teams.
-    fn lay_hosted(self, n: usize, tables: &Tables, words: &mut [Slots])
-        requires { (length words.old ≡ n) × TiedGroup n self.t1 tables.now × (self.t2 < 2 ^ n) }
-        ensures { MasksOf (hosts n (x_of tables.now.meets) (code_of self.sides) self.t1 self.t2) words.new n }
+    // All games in S.
+    fn games_in(self) -> u32
+        ensures { result ≡ over most_slots (slots_of self.entry.check.now.constraint) (of_meetings games_between self.entry) }
+    {
+        (0..self.check.sizes.teams)
+            .map(|i| self.hosted_in_s(i))
+            .sum()
+    }
+
+    // The mask of each team's games of `hosted`, a word for each team.
+    fn lay_hosted(self, words: &mut [Slots])
+        requires { length words.old ≡ self.check.now.sizes.teams }
+        ensures { MasksOf (of_meetings hosts self.entry) words.new self.entry.check.now.sizes.teams }
     {
         for (i, word) in words.iter_mut().enumerate() {
-            *word = self.hosted(n, tables, i);
+            *word = self.hosted(i);
         }
     }
 }
@@ -82,58 +77,53 @@ impl Meetings {
 // How many of the masks have slot k.
 fn column(words: &[Slots], k: usize) -> u32
     requires { (length words.now ≤ most_teams) × (k < most_slots) }
-    ensures { result ≡ sum_to (λ i. bit (get_or words.now i 0) k) (length words.now) }
+    ensures { result ≡ sum_by (λ word. bit word k) words.now }
 {
-    let mut v = 0;
-    for &word in words {
-        v += u32::from(masks::bit_at(word, k));
-    }
-    v
+    words
+        .iter()
+        .map(|&word| u32::from(masks::bit_at(word, k)))
+        .sum()
 }
 
 // One figure a slot of s, from the masks' columns.
 fn fill_columns(kmin: u8, kmax: u8, s: Slots, p: usize, words: &[Slots], out: &mut [u32])
     requires { (length words.now ≤ most_teams) × (p ≤ most_slots) × (length out.old ≡ size p s) }
-    ensures { out.new ≡ each p s (λ k. outside kmin kmax (sum_to (λ i. bit (get_or words.now i 0) k) (length words.now))) }
+    ensures { out.new ≡ each p s (λ k. outside kmin kmax (sum_by (λ word. bit word k) words.now)) }
 {
-    let mut at = 0;
-    for k in 0..p {
-        if masks::is_in(s, k) {
-            out[at] = outside(kmin, kmax, column(words, k));
-            at += 1;
-        }
+    for (at, k) in (0..p).filter(|&k| masks::is_in(s, k)).enumerate() {
+        out[at] = outside(kmin, kmax, column(words, k));
     }
 }
 
 // CA4.
-pub fn fill_ca4(c: Constraint, z: Season, tables: &Tables, out: &mut [u32])
-    requires { Fillable z.teams z.slots c tables.now out.old × (kind_of c.kind ≡ Ca4) }
-    ensures { out.new ≡ dev_ca4 z.teams z.slots c (x_of tables.now.meets) }
+pub fn fill_ca4(check: &Check, out: &mut [u32])
+    requires { HasRoom check.now out.old × (kind_of check.now.constraint.kind ≡ Ca4) }
+    ensures { out.new ≡ of_check dev_ca4 check.now }
 {
+    let c = check.constraint;
     let games = Meetings {
+        check,
         sides: Sides::of_mode(c.mode),
-        t1: c.t1,
-        t2: c.t2,
     };
-    if first_modes(c.mode) {
-        out[0] = outside(c.kmin, c.kmax, games.games_in(c.s, z.teams, tables));
+    if c.first_modes() {
+        out[0] = outside(c.kmin, c.kmax, games.games_in());
         return;
     }
     let mut all = [masks::NONE; Season::TEAMS];
-    let words = &mut all[..z.teams];
-    games.lay_hosted(z.teams, tables, words);
-    fill_columns(c.kmin, c.kmax, c.s, z.slots, words, out);
+    let words = &mut all[..check.sizes.teams];
+    games.lay_hosted(words);
+    fill_columns(c.kmin, c.kmax, c.s, check.sizes.slots, words, out);
 }
 
 // GA1: CA4's games of the home side.
-pub fn fill_ga1(c: Constraint, z: Season, tables: &Tables, out: &mut [u32])
-    requires { Fillable z.teams z.slots c tables.now out.old × (kind_of c.kind ≡ Ga1) }
-    ensures { out.new ≡ dev_ga1 z.teams z.slots c (x_of tables.now.meets) }
+pub fn fill_ga1(check: &Check, out: &mut [u32])
+    requires { HasRoom check.now out.old × (kind_of check.now.constraint.kind ≡ Ga1) }
+    ensures { out.new ≡ of_check dev_ga1 check.now }
 {
+    let c = check.constraint;
     let hosted = Meetings {
+        check,
         sides: Sides::Home,
-        t1: c.t1,
-        t2: c.t2,
     };
-    out[0] = outside(c.kmin, c.kmax, hosted.games_in(c.s, z.teams, tables));
+    out[0] = outside(c.kmin, c.kmax, hosted.games_in());
 }

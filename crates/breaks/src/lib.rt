@@ -2,51 +2,39 @@
 
 #![tactic(auto)]
 
-ghost use Rattle.std.specs.Prelude.{◌≡◌, true, ◌*◌, ◌≤◌, ◌<◌};
-ghost use Rattle.robinx.specs.Season.{most_teams, most_slots};
+ghost use Rattle.std.specs.Prelude.{◌≡◌, ◌*◌, ◌≤◌, ◌<◌};
+ghost use Rattle.robinx.specs.Season.{most_slots};
 ghost use Rattle.robinx.specs.Sums.{sum_to, only};
 ghost use Rattle.robinx.specs.Groups.{has};
 ghost use Rattle.robinx.specs.Timetable.{first_modes};
-ghost use Rattle.robinx.specs.Rules.{obeys};
 ghost use Rattle.robinx.specs.Kinds.{kind_of};
 ghost use Rattle.robinx.specs.declared.Kind.TheVariants.{Br1, Br2};
-ghost use Rattle.robinx.specs.Deviations.{over, off_target, breaks, dev_br1, dev_br2};
-ghost use Rattle.masks.specs.Masks.{Within, is_break};
-ghost use Rattle.tables.specs.Tables.{Tied, x_of};
-ghost use Rattle.opponents.specs.Fillable.{Fillable};
+ghost use Rattle.robinx.specs.Deviations.{off_target, breaks, dev_br1, dev_br2};
+ghost use Rattle.opponents.specs.Figures.{of_check, HasRoom};
 
 use groups::fill::{fill_each, total};
-use masks::{breaks_in, union};
-use opponents::measure::{Sides, first_modes};
-use robinx::{Constraint, Season, Slots};
-use tables::Tables;
+use masks::{breaks_of, union};
+use opponents::check::Check;
+use opponents::measure::Sides;
+use robinx::Constraint;
 
-// The breaks of a side in the slots of s, where it is asked for.
-fn breaks_if(asked: bool, side: Slots, all: Slots, s: Slots) -> u32
-    requires { Within side all }
-    ensures { (result ≡ only asked (over most_slots s (λ k. only (is_break side all k) 1))) × (result ≤ most_slots) }
+// A team's breaks of the mode's sides in S. A side that is not asked for has no games here, and so no breaks.
+fn team_breaks(check: &Check, t: usize) -> u32
+    requires { t < check.now.sizes.teams }
+    ensures { (result ≡ of_check breaks check.now t) × (result ≤ 2 * most_slots) }
 {
-    if asked { breaks_in(side, all, s) } else { 0 }
+    let sides = Sides::of_mode(check.constraint.mode);
+    let all = union(check.tables.home[t], check.tables.away[t]);
+    let s = check.constraint.s;
+    breaks_of(check.home(sides, t), check.away(sides, t), all, s)
 }
 
-// A team's breaks of the mode's sides in S.
-fn team_breaks(c: Constraint, z: Season, tables: &Tables, t: usize) -> u32
-    requires { (z.teams ≤ most_teams) × (z.slots ≤ most_slots) × (t < z.teams) × (obeys z.teams z.slots c ≡ true) × Tied z.teams tables.now }
-    ensures { (result ≡ breaks z.teams z.slots c (x_of tables.now.meets) t) × (result ≤ 2 * most_slots) }
+// How far a count of breaks is off kmax: modes 1 to 3 allow fewer.
+fn off_target(c: Constraint, v: u32) -> u32
+    ensures { result ≡ off_target (first_modes c.mode) c.kmax v }
 {
-    let h = tables.home[t];
-    let a = tables.away[t];
-    let sides = Sides::of_mode(c.mode);
-    let all = union(h, a);
-    breaks_if(sides.asks_home(), h, all, c.s) + breaks_if(sides.asks_away(), a, all, c.s)
-}
-
-// How far a count of breaks is off kmax: modes 1 to 3 allow fewer. The mode is the constraint's byte: this asks one thing of it.
-fn off_target(mode: u8, kmax: u8, v: u32) -> u32
-    ensures { result ≡ off_target (first_modes mode) kmax v }
-{
-    let most = u32::from(kmax);
-    if first_modes(mode) {
+    let most = u32::from(c.kmax);
+    if c.first_modes() {
         v.saturating_sub(most)
     } else {
         v.abs_diff(most)
@@ -54,29 +42,25 @@ fn off_target(mode: u8, kmax: u8, v: u32) -> u32
 }
 
 // The deviations of BR1, from one team of the group to the next.
-pub fn fill_breaks(c: Constraint, z: Season, tables: &Tables, out: &mut [u32])
-    requires { Fillable z.teams z.slots c tables.now out.old × (kind_of c.kind ≡ Br1) }
-    ensures { out.new ≡ dev_br1 z.teams z.slots c (x_of tables.now.meets) }
+pub fn fill_breaks(check: &Check, out: &mut [u32])
+    requires { HasRoom check.now out.old × (kind_of check.now.constraint.kind ≡ Br1) }
+    ensures { out.new ≡ of_check dev_br1 check.now }
 {
-    fill_each(
-        c.t1,
-        |t| off_target(c.mode, c.kmax, team_breaks(c, z, tables, t)),
-        out,
-    );
+    let c = check.constraint;
+    fill_each(c.t1, |t| off_target(c, team_breaks(check, t)), out);
 }
 
 // The breaks of all teams of the group.
-fn group_breaks(c: Constraint, z: Season, tables: &Tables) -> u32
-    requires { (z.teams ≤ most_teams) × (z.slots ≤ most_slots) × (obeys z.teams z.slots c ≡ true) × Tied z.teams tables.now }
-    ensures { result ≡ sum_to (λ t. only (has c.t1 t) (breaks z.teams z.slots c (x_of tables.now.meets) t)) z.teams }
+fn group_breaks(check: &Check) -> u32
+    ensures { result ≡ sum_to (λ t. only (has check.now.constraint.t1 t) (of_check breaks check.now t)) check.now.sizes.teams }
 {
-    total(c.t1, |t| team_breaks(c, z, tables, t))
+    total(check.constraint.t1, |t| team_breaks(check, t))
 }
 
 // The deviation of BR2.
-pub fn fill_all_breaks(c: Constraint, z: Season, tables: &Tables, out: &mut [u32])
-    requires { Fillable z.teams z.slots c tables.now out.old × (kind_of c.kind ≡ Br2) }
-    ensures { out.new ≡ dev_br2 z.teams z.slots c (x_of tables.now.meets) }
+pub fn fill_all_breaks(check: &Check, out: &mut [u32])
+    requires { HasRoom check.now out.old × (kind_of check.now.constraint.kind ≡ Br2) }
+    ensures { out.new ≡ of_check dev_br2 check.now }
 {
-    out[0] = off_target(c.mode, c.kmax, group_breaks(c, z, tables));
+    out[0] = off_target(check.constraint, group_breaks(check));
 }

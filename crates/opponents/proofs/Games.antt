@@ -6,18 +6,18 @@ use Prim.Native.Nat.{ℕ, zero, suc, ◌+◌, ◌-◌, ◌*◌, ◌^◌, ◌<◌
 use native.Mathlib.Omega.{arith}
 use lib.Bits.{bit_or}
 use lib.ListN.{get_or}
+use Rattle.std.proofs.lemmas.Nat.Bits.{bit_at_or, bit_at-zero, bit_at_ones}
 use Rattle.robinx.specs.Season.{most_teams, most_slots}
 use Rattle.robinx.specs.Sums.{sum_to, max_to, only}
 use Rattle.robinx.specs.Groups.{bit, has}
 use Rattle.robinx.specs.Timetable.{X, games_with, games_in, games_against}
-use Rattle.robinx.proofs.Sums.{only-le, sum-zero, sum-add, sum-le}
+use Rattle.robinx.proofs.Sums.{only-le, max-bound, sum-zero, sum-add, sum-le}
 use Rattle.robinx.proofs.Ext.{sum-ext, max-ext}
-use Rattle.robinx.proofs.Bits.{or-bit, none-bit, all-bit}
 use Rattle.robinx.proofs.SetBits.{none-past}
 use Rattle.robinx.proofs.Stops.{max-stop}
 use Rattle.tables.specs.declared.Tables.{Tables}
 use Rattle.tables.specs.Tables.{Tied, x_of, cell}
-use Rattle.opponents.specs.Games.{MaskOf, of_sides, in_union, UnionIf}
+use Rattle.opponents.specs.Games.{MaskOf, of_sides, in_union, Union}
 
 -- where at most one of two or of many is 1, the largest is the sum
 max-is-sum : (f : ℕ → ℕ) (n : ℕ) → sum_to f n ≤ 1 → max_to f n ≡ sum_to f n
@@ -30,7 +30,7 @@ either b c u v h = omega (arith, only-le b u, only-le c v)
 
 bit-only : (b : Bool) (m k : ℕ) → bit (only b m) k ≡ only b (bit m k)
 bit-only true m k = refl
-bit-only false m k = none-bit k
+bit-only false m k = bit_at-zero k
 
 only_sum : (b : Bool) (f : ℕ → ℕ) (n : ℕ) → sum_to (λ j. only b (f j)) n ≡ only b (sum_to f n)
 only_sum true f n = refl
@@ -58,6 +58,12 @@ union-sum l T base step n k place at h ln one =
     ∙ max-stop n most_teams ln (λ j. only (has T j) (bit (get_or l (place j) 0) k)) (λ j a b. rw (none-past T n h j a))
     ∙ max-is-sum _ n (omega (arith, part-le T (λ j. bit (get_or l (place j) 0) k) n))
 
+-- nobody's words have nothing in common
+nobody : (b : Bool) (l : List ℕ) (T base step n k : ℕ) → in_union l (only b T) base step n k ≡ only b (in_union l T base step n k)
+nobody true l T base step n k = refl
+nobody false l T base step n k =
+    omega (arith, max-bound {f = λ j. only (has 0 j) (bit (get_or l (base + j * step) 0) k)} n 0 (λ j lj. rw (bit_at-zero j) (omega arith)))
+
 module _ {n : ℕ} {ts : Tables} (tied : Tied n ts) (d t : ℕ) (lt : t < n) where
   once : (k : ℕ) → k < most_slots → sum_to (λ j. x_of ts.meets t j k) n + sum_to (λ j. x_of ts.meets j t k) n ≤ 1
   once k lk = rw (← tied.home-row t k lt lk, ← tied.away-row t k lt lk) (tied.once t k lt lk)
@@ -66,18 +72,18 @@ module _ {n : ℕ} {ts : Tables} (tied : Tied n ts) (d t : ℕ) (lt : t < n) whe
   pub sides-mask : MaskOf (games_in n (x_of ts.meets) d t) (of_sides d (get_or ts.home t 0) (get_or ts.away t 0))
   unfolding games_in games_with
   sides-mask k lk =
-      or-bit (only (has d 0) (get_or ts.home t 0)) (only (has d 1) (get_or ts.away t 0)) k
+      bit_at_or (only (has d 0) (get_or ts.home t 0)) (only (has d 1) (get_or ts.away t 0)) k
       ∙ ap₂ max (bit-only (has d 0) (get_or ts.home t 0) k) (bit-only (has d 1) (get_or ts.away t 0) k)
       ∙ either (has d 0) (has d 1) _ _ (tied.once t k lt lk)
       ∙ ap₂ (λ (u v : ℕ). only (has d 0) u + only (has d 1) v) (tied.home-row t k lt lk) (tied.away-row t k lt lk)
       ∙ sym (sum-sides (has d 0) (has d 1) (λ j. x_of ts.meets t j k) (λ j. x_of ts.meets j t k) n)
 
-  -- .. against a group
-  pub union-mask : (T u v : ℕ) → n ≤ most_teams → T < 2 ^ n → {b c : Bool} → b ≡ has d 0 → c ≡ has d 1
-      → UnionIf b ts.meets T (t * most_teams) 1 most_teams u → UnionIf c ts.meets T t most_teams most_teams v
+  -- .. against a group, where a side that is not asked for has nobody's games
+  pub union-mask : (T u v : ℕ) → n ≤ most_teams → T < 2 ^ n
+      → Union ts.meets (only (has d 0) T) (t * most_teams) 1 most_teams u → Union ts.meets (only (has d 1) T) t most_teams most_teams v
       → MaskOf (games_against n (x_of ts.meets) d T t) (bit_or u v)
   unfolding games_against games_with
-  union-mask T u v ln h eb ec p q k lk =
+  union-mask T u v ln h p q k lk =
       let f : ℕ → ℕ = λ j. only (has T j) (x_of ts.meets t j k) in
       let g : ℕ → ℕ = λ j. only (has T j) (x_of ts.meets j t k) in
       let o = once k lk in
@@ -85,7 +91,8 @@ module _ {n : ℕ} {ts : Tables} (tied : Tied n ts) (d t : ℕ) (lt : t < n) whe
       union-sum ts.meets T (t * most_teams) 1 n k (λ j. cell t j) (λ j. omega arith) h ln (omega arith) in
       let ev : in_union ts.meets T t most_teams most_teams k ≡ sum_to g n =
       union-sum ts.meets T t most_teams n k (λ j. cell j t) (λ j. omega arith) h ln (omega arith) in
-      or-bit u v k ∙ ap₂ max (p k ∙ ap₂ only eb eu) (q k ∙ ap₂ only ec ev)
+      bit_at_or u v k
+      ∙ ap₂ max (p k ∙ nobody (has d 0) _ _ _ _ _ k ∙ ap (only (has d 0)) eu) (q k ∙ nobody (has d 1) _ _ _ _ _ k ∙ ap (only (has d 1)) ev)
       ∙ either (has d 0) (has d 1) (sum_to f n) (sum_to g n)
       (omega (arith, part-le T (λ j. x_of ts.meets t j k) n, part-le T (λ j. x_of ts.meets j t k) n))
       ∙ sym (sum-sides (has d 0) (has d 1) f g n)
@@ -94,4 +101,4 @@ module _ {n : ℕ} {ts : Tables} (tied : Tied n ts) (d t : ℕ) (lt : t < n) whe
 -- The group of all n teams.
 pub against-all : (n : ℕ) (x : X) (d t T k : ℕ) → T ≡ 2 ^ n - 1 → games_against n x d T t k ≡ games_in n x d t k
 unfolding games_against games_in
-against-all n x d t T k e = sum-ext n (λ j l. rw (e, all-bit n j l))
+against-all n x d t T k e = sum-ext n (λ j l. rw (e, bit_at_ones n j l))

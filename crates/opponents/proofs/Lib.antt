@@ -1,4 +1,4 @@
-pub mod Fillable
+pub mod Checkable
 pub mod Games
 pub mod Plays
 pub mod Gathered

@@ -1,5 +1,5 @@
 -- Masks of a team's games.
-use Rattle.std.specs.Prelude.{◌≡◌, List, Bool, ℕ, ◌+◌, ◌*◌, ◌<◌, get_or}
+use Rattle.std.specs.Prelude.{◌≡◌, List, ℕ, ◌+◌, ◌*◌, ◌<◌, get_or}
 use Rattle.std.specs.Int.Bits.{bit_or}
 use Rattle.robinx.specs.Season.{most_slots}
 use Rattle.robinx.specs.Sums.{max_to, only}
@@ -20,7 +20,3 @@ in_union l T base step n k = max_to (λ j. only (has T j) (bit (get_or l (base +
 -- m is the union of these words
 abbrev pub Union : List ℕ → ℕ → ℕ → ℕ → ℕ → ℕ → Type 0
 Union l T base step n m = (k : ℕ) → bit m k ≡ in_union l T base step n k
-
--- .. or nothing, if it is not asked for
-abbrev pub UnionIf : Bool → List ℕ → ℕ → ℕ → ℕ → ℕ → ℕ → Type 0
-UnionIf b l T base step n m = (k : ℕ) → bit m k ≡ only b (in_union l T base step n k)

@@ -1,3 +1,4 @@
-pub mod Fillable
+pub mod Checkable
 pub mod Games
 pub mod Sides
+pub mod Figures

@@ -2,7 +2,7 @@
 
 ghost use Rattle.std.specs.Prelude.{◌≡◌, ◌≤◌};
 ghost use Rattle.robinx.specs.Groups.{has};
-ghost use Rattle.robinx.specs.Timetable.{side, first_modes};
+ghost use Rattle.robinx.specs.Timetable.{side};
 ghost use Rattle.robinx.specs.Deviations.{outside};
 ghost use Rattle.opponents.specs.Sides.{code_of};
 
@@ -40,13 +40,6 @@ impl Sides {
     {
         self != Sides::Home
     }
-}
-
-// The mode, a byte of the format, is one of 1 to 3.
-pub fn first_modes(mode: u8) -> bool
-    ensures { result ≡ first_modes mode }
-{
-    mode <= 3
 }
 
 // How far a count is outside kmin .. kmax.

@@ -8,30 +8,36 @@ ghost use Rattle.robinx.specs.Kinds.{kind_of};
 ghost use Rattle.robinx.specs.declared.Kind.TheVariants.{Se1};
 ghost use Rattle.robinx.specs.Deviations.{dev_se1};
 ghost use Rattle.tables.specs.Tables.{x_of};
-ghost use Rattle.opponents.specs.Fillable.{Fillable};
+ghost use Rattle.opponents.specs.Figures.{of_check, HasRoom};
 ghost use Rattle.separation.specs.Closeness.{closeness};
 
 use groups::fill::fill_pairs;
 use masks::{closeness, front, union};
-use robinx::{Constraint, Season};
+use opponents::check::Check;
+use robinx::Season;
 use tables::Tables;
 
-// Of teams i and j.
+// Of teams i and j in the first p slots. The parts of the check come as values: to look them up at each pair costs 3 %.
 fn pair_closeness(tables: &Tables, w: u8, p: usize, i: usize, j: usize) -> u32
     requires { (p ≤ most_slots) × (i < most_teams) × (j < most_teams) }
     ensures { result ≡ closeness (x_of tables.now.meets) w p i j }
 {
-    let met = union(
-        tables.meets[i * Season::TEAMS + j],
-        tables.meets[j * Season::TEAMS + i],
-    );
+    let meets = &tables.meets;
+    let met = union(meets[i * Season::TEAMS + j], meets[j * Season::TEAMS + i]);
     closeness(front(met, p), w)
 }
 
 // The deviations of SE1.
-pub fn fill_separation(c: Constraint, z: Season, tables: &Tables, out: &mut [u32])
-    requires { Fillable z.teams z.slots c tables.now out.old × (kind_of c.kind ≡ Se1) }
-    ensures { out.new ≡ dev_se1 z.teams z.slots c (x_of tables.now.meets) }
+pub fn fill_separation(check: &Check, out: &mut [u32])
+    requires { HasRoom check.now out.old × (kind_of check.now.constraint.kind ≡ Se1) }
+    ensures { out.new ≡ of_check dev_se1 check.now }
 {
-    fill_pairs(c.t1, |i, j| pair_closeness(tables, c.w, z.slots, i, j), out);
+    let tables = check.tables;
+    let w = check.constraint.w;
+    let p = check.sizes.slots;
+    fill_pairs(
+        check.constraint.t1,
+        |i, j| pair_closeness(tables, w, p, i, j),
+        out,
+    );
 }

@@ -1,78 +1,103 @@
--- A team's trips by the masks of its home games and its away games, and the deviations of both kinds. Assumes that the tables are tied.
-use mathlib.Core.Path.{◌≡◌, refl, sym, ap, ◌∙◌}
-use mathlib.Core.Logic.{inl, inr, ⊎_elim}
-use mathlib.Core.Bool.{false}
-use mathlib.Core.List.{List}
-use Prim.Native.Nat.{ℕ, ◌%◌, ◌^◌, ◌<◌, ◌≤◌}
+-- A team's trips by the masks of its home games and its away games. Assumes that the tables are tied.
+use mathlib.Core.Path.{◌≡◌, refl, sym, ◌∙◌}
+use mathlib.Core.Bool.{Bool, false}
+use Prim.Native.Nat.{ℕ, ◌+◌, ◌*◌, ◌-◌, ◌%◌, ◌^◌, ◌<◌, ◌≤◌}
 use native.Mathlib.Omega.{arith}
-use native.Mathlib.Nat.{mod-lt}
-use lib.Count.{ones}
-use lib.ListN.{length, get_or}
+use native.Mathlib.Nat.{mod-lt, zero-add}
+use lib.Bits.{bit_and}
+use lib.ListN.{get_or}
 use lib.Pow.{pow_pos}
 use Rattle.robinx.specs.Season.{most_slots, slots_of}
 use Rattle.robinx.specs.Groups.{bit, has}
-use Rattle.robinx.specs.Timetable.{X, home_side, away_side, games_against, plays, along_trip}
-use Rattle.robinx.specs.Kinds.{kind_of, form_of}
-use Rattle.robinx.specs.Deviations.{each, trips, trip_games, dev_ca5, dev_br4, deviations_of, deviations}
-use Rattle.robinx.specs.declared.Kind.{Kind}
-use Rattle.robinx.specs.declared.Constraint.{Constraint}
+use Rattle.robinx.specs.Timetable.{home_side, away_side, games_against, plays, starts_trip, on_trip, over_trips}
+use Rattle.robinx.specs.Deviations.{over, trips, trip_games}
 use Rattle.robinx.proofs.Bits.{front-has}
-use Rattle.robinx.proofs.GroupSizes.{size-ones}
 use Rattle.robinx.proofs.SetBits.{none-past}
 use Rattle.robinx.proofs.Trips.{along_trip-ext, along_trip-stop, over_trips-ext, over_trips-stop}
-use Rattle.tables.specs.declared.Tables.{Tables}
-use Rattle.tables.specs.Tables.{Tied, x_of}
-use Rattle.opponents.specs.Fillable.{Fillable}
+use Rattle.masks.specs.Masks.{Marks, without, First}
+use Rattle.masks.proofs.OneFewer.{over_none, over-one-fewer}
+use Rattle.tables.specs.Tables.{x_of}
+use Rattle.opponents.specs.Figures.{of_check}
 use Rattle.opponents.specs.Games.{MaskOf}
-use Rattle.opponents.proofs.Fillable.{limits, places_of}
+use Rattle.opponents.specs.declared.check.Check.{Check}
 use Rattle.opponents.proofs.Plays.{home-mask, away-mask, plays-mask}
-use Rattle.trips.specs.TripFigures.{IsTripKind, of_trip, of_team, of_masks, trip_figure}
+use Rattle.trips.specs.TripFigures.{RunOf, GivesTrips, TripsFigure}
+use Rattle.trips.proofs.Runs.{along, adds, all_runs, count-le}
 
-module _ {n : ℕ} {ts : Tables} (tied : Tied n ts) (t : ℕ) (lt : t < n) (P : ℕ) (lp : P ≤ most_slots) (c : Constraint) where
-  abbrev x : X
-  x = x_of ts.meets
+-- Before each turn of the loop: v is little, and with what the runs from the slots of rest add it is the whole sum.
+pub record Summed (away home : ℕ) (k : Check) (t : ℕ) (post : ℕ → ℕ → Type 0) (rest v : ℕ) : Type 0 where
+  pub small : most_slots * v + (2 ^ 32 - 1) * over most_slots rest (λ i. 1) ≤ most_slots * (2 ^ 32 - 1)
+  pub values : (f : ℕ → ℕ) → GivesTrips k t post f
+      → v + over most_slots rest (adds away home (slots_of k.constraint) f) ≡ of_check trips k t f
 
-  abbrev h : ℕ
-  h = get_or ts.home t 0
+module _ (k : Check) (t : ℕ) (lt : t < k.sizes.teams) where
+  abbrev P : ℕ
+  P = k.sizes.slots
 
-  -- the away games of the first P slots
-  abbrev a : ℕ
-  a = get_or ts.away t 0 % 2 ^ P
+  abbrev plays_on : ℕ → ℕ → Bool
+  plays_on d = plays k.sizes.teams (x_of k.tables.now.meets) d t
 
-  away-has : (k : ℕ) → k < P → has a k ≡ plays n x away_side t k
-  away-has k l = front-has (get_or ts.away t 0) P k l ∙ sym (plays-mask tied t lt away_side (get_or ts.away t 0) (away-mask tied t lt) k (omega arith))
+  abbrev home : ℕ
+  home = get_or k.tables.now.home t 0
 
-  home-has : (k : ℕ) → k < P → has h k ≡ plays n x home_side t k
-  home-has k l = sym (plays-mask tied t lt home_side h (home-mask tied t lt) k (omega arith))
+  -- the games against T2 on a run
+  pub games : (wanted : ℕ) → MaskOf (games_against k.sizes.teams (x_of k.tables.now.meets) away_side k.constraint.t2 t) wanted
+      → (a run : ℕ) → RunOf k t a run → over most_slots run (bit wanted) ≡ of_check trip_games k t a
+  unfolding trip_games
+  games wanted mask a run of =
+      of (bit wanted)
+      ∙ along_trip-ext {p = plays_on away_side} {q = plays_on home_side} P (λ i l. refl) (λ i l. refl) a
+      (λ i l. mask i (omega (arith, k.checkable.slots)))
 
-  none : (k : ℕ) → P ≤ k → k < most_slots → has a k ≡ false
-  none k l l' = none-past a P (mod-lt (get_or ts.away t 0) (pow_pos P)) k l
+  home-has : (i : ℕ) → i < P → has home i ≡ plays_on home_side i
+  home-has i l = sym (plays-mask k.checkable.tied t lt home_side home (home-mask k.checkable.tied t lt) i (omega (arith, k.checkable.slots)))
 
-  module _ (wanted : ℕ) (mask : MaskOf (games_against n x away_side c.t2 t) wanted) where
-    games : (s : ℕ) → along_trip (has a) (has h) most_slots s (bit wanted) ≡ trip_games n P c x t s
-    unfolding trip_games
-    games s = along_trip-stop P most_slots lp (has a) (has h) none s (bit wanted) ∙ along_trip-ext P away-has home-has s (λ k l. mask k (omega arith))
+  -- by the away games of the season's slots
+  module _ (away : ℕ) (front : away ≡ get_or k.tables.now.away t 0 % 2 ^ P) where
+    away-has : (i : ℕ) → i < P → has away i ≡ plays_on away_side i
+    away-has i l =
+        rw front
+        (front-has (get_or k.tables.now.away t 0) P i l
+        ∙ sym (plays-mask k.checkable.tied t lt away_side _ (away-mask k.checkable.tied t lt) i (omega (arith, k.checkable.slots))))
 
-    pub team-trips : of_masks c a h wanted ≡ trips n P c x t (λ s. of_trip (kind_of c.kind) c (trip_games n P c x t s))
+    none : (i : ℕ) → P ≤ i → i < most_slots → has away i ≡ false
+    none i l l' = none-past away P (rw front (mod-lt (get_or k.tables.now.away t 0) (pow_pos P))) i l
+
+    -- the run from a slot, and all trips
+    pub run_of : (a run : ℕ) → Marks most_slots (on_trip (has away) (has home) a) run → RunOf k t a run
+    run_of a run m f =
+        along away home a run m f
+        ∙ along_trip-stop P most_slots k.checkable.slots (has away) (has home) none a f
+        ∙ along_trip-ext P away-has home-has a (λ i l. refl)
+
+    team-trips : (f : ℕ → ℕ) → over_trips (has away) (has home) most_slots (slots_of k.constraint) f ≡ of_check trips k t f
     unfolding trips
-    team-trips =
-        over_trips-stop P most_slots lp (has a) (has h) none (slots_of c) _
-        ∙ over_trips-ext P away-has home-has (slots_of c) (λ s l. ap (of_trip (kind_of c.kind) c) (games s))
+    team-trips f =
+        over_trips-stop P most_slots k.checkable.slots (has away) (has home) none (slots_of k.constraint) f
+        ∙ over_trips-ext P away-has home-has (slots_of k.constraint) (λ a l. refl)
 
--- a place for each team
-pub trip-places : {n P : ℕ} {c : Constraint} {ts : Tables} {out : List ℕ} → IsTripKind (kind_of c.kind) → Fillable n P c ts out → length out ≡ ones c.t1
-unfolding form_of
-trip-places {n} {P} {c} kind r =
-    ⊎_elim (λ e. places_of r e) (λ e. places_of r e) kind ∙ size-ones n c.t1 (limits r).t1
+    pub none-summed : {post : ℕ → ℕ → Type 0} (starts rest : ℕ) → Marks most_slots (starts_trip (has away) (has home)) starts
+        → rest ≡ bit_and starts (slots_of k.constraint) → Summed away home k t post rest 0
+    none-summed starts rest m e = record {
+      small = omega (arith, count-le rest);
+      values = λ f g. rw (e, zero-add) (all_runs away home (slots_of k.constraint) starts m f ∙ team-trips f);
+    }
 
-module _ (n P : ℕ) (c : Constraint) (x : X) where
-  -- what is made of the teams' trips are the deviations
-  made : (k : Kind) → IsTripKind k
-      → each n c.t1 (λ t. of_team k c (trips n P c x t (λ a. of_trip k c (trip_games n P c x t a)))) ≡ deviations_of k n P c x
-  unfolding deviations_of dev_ca5 dev_br4
-  made k (inl e) = rw e refl
-  made k (inr e) = rw e refl
+module _ {away home : ℕ} {k : Check} {t : ℕ} {post : ℕ → ℕ → Type 0} {rest v : ℕ} (w : Summed away home k t post rest v) where
+  module _ {a : ℕ} (first : First rest a) (r : ℕ) (l : most_slots * r < 2 ^ 32) where
+    one-fewer : (f : ℕ → ℕ) → over most_slots rest f ≡ f a + over most_slots (without rest a) f
+    one-fewer f = over-one-fewer most_slots rest a f first.within first.found
 
-  pub trip-deviations : IsTripKind (kind_of c.kind) → each n c.t1 (trip_figure n P c x) ≡ deviations n P c x
-  unfolding deviations
-  trip-deviations = made (kind_of c.kind)
+    pub room : v + r < 2 ^ 32
+    room = omega (arith, l, w.small, one-fewer (λ i. 1))
+
+    -- with the run from a, which adds r
+    pub one-more : ((f : ℕ → ℕ) → GivesTrips k t post f → r ≡ adds away home (slots_of k.constraint) f a)
+        → Summed away home k t post (without rest a) (v + r)
+    one-more is = record {
+      small = omega (arith, l, w.small, one-fewer (λ i. 1));
+      values = λ f g. omega (arith, is f g, w.values f g, one-fewer (adds away home (slots_of k.constraint) f));
+    }
+
+  pub all-summed : rest ≡ 0 → TripsFigure k t post v
+  all-summed e f g = omega (arith, rw e at (w.values f g), over_none most_slots (adds away home (slots_of k.constraint) f))

@@ -2,22 +2,21 @@
 
 #![tactic(auto)]
 
-ghost use Rattle.std.specs.Prelude.{◌≡◌, ◌&&◌, ◌<◌, ◌≤◌, leb};
+ghost use Rattle.std.specs.Prelude.{◌≡◌, ◌&&◌, ℕ, ◌*◌, ◌<◌, ◌^◌, leb};
 ghost use Rattle.robinx.specs.Season.{most_slots};
-ghost use Rattle.robinx.specs.Groups.{bit, has, size};
+ghost use Rattle.robinx.specs.Groups.{has, size};
 ghost use Rattle.robinx.specs.Timetable.{last_was};
 ghost use Rattle.robinx.specs.Kinds.{kind_of};
-ghost use Rattle.robinx.specs.Deviations.{over, deviations};
-ghost use Rattle.tables.specs.Tables.{x_of};
-ghost use Rattle.opponents.specs.Fillable.{Fillable, TiedGroup};
-ghost use Rattle.trips.specs.TripFigures.{IsTripKind, of_trip, of_team, of_run, of_masks, trip_figure};
+ghost use Rattle.robinx.specs.declared.Kind.TheVariants.{Ca5, Br4};
+ghost use Rattle.robinx.specs.Deviations.{dev_ca5, dev_br4};
+ghost use Rattle.opponents.specs.Figures.{of_check, HasRoom};
+ghost use Rattle.trips.specs.TripFigures.{TripAt, TripsFigure, off_trips, missing_trips};
 
 use groups::fill::fill_each;
 use masks::{common, count_in, first, front, is_some, last_in, trip_from, trip_starts, without};
-use opponents::against;
+use opponents::check::Check;
 use opponents::measure::{Sides, outside};
-use robinx::{Constraint, Kind, Season, Slots};
-use tables::Tables;
+use robinx::Slots;
 
 // The run has two slots or more, and its last one is in s.
 fn ends_in(run: Slots, s: Slots) -> bool
@@ -26,67 +25,70 @@ fn ends_in(run: Slots, s: Slots) -> bool
     2 <= masks::size(run) && last_in(run, s)
 }
 
-// What a trip adds to its team's figure: 1 in BR4, how far its games against T2 are outside kmin .. kmax in CA5.
-fn trip_figure(c: Constraint, wanted: Slots, trip: Slots) -> u32
-    ensures { result ≡ of_trip (kind_of c.kind) c (over most_slots trip (bit wanted)) }
-{
-    match Kind::of(c.kind) {
-        Kind::Br4 => 1,
-        _ => outside(c.kmin, c.kmax, count_in(wanted, trip)),
-    }
-}
-
-// What the run of away games from a slot of S adds: nothing unless it is a trip that ends in S.
-fn run_figure(c: Constraint, away: Slots, home: Slots, wanted: Slots, a: usize) -> u32
+// The slots of the run of away games from a slot, where it is a trip that ends in s.
+fn trip_at(away: Slots, home: Slots, s: Slots, a: usize) -> Option<Slots>
     requires { a < most_slots }
-    ensures { result ≡ of_run c away home wanted a }
+    ensures { TripAt away home s a result }
 {
     let run = trip_from(away, home, a);
-    if ends_in(run, c.s) {
-        return trip_figure(c, wanted, run);
-    }
-    0
+    ends_in(run, s).then_some(run)
 }
 
-// A team's figure, from one run of away games that starts in S to the next.
-fn sum_trips(c: Constraint, away: Slots, home: Slots, wanted: Slots) -> u32
-    ensures { result ≡ of_masks c away home wanted }
+// The sum over a team's trips of what each one adds by its slots, which is so little that no sum of it is too large.
+#[tactic(auto, using(crate::proofs::Runs::fewer))]
+fn sum_trips<F: Fn(Slots) -> u32>(check: &Check, t: usize, added: F) -> u32
+    requires team { t < check.now.sizes.teams }
+    requires callable { F.IsAlwaysCallable added }
+    requires small { (trip r : ℕ) → F.post added trip r → most_slots * r < 2 ^ 32 }
+    ensures { TripsFigure check.now t (F.post added) result }
 {
+    let away = front(check.tables.away[t], check.sizes.slots);
+    let home = check.tables.home[t];
+    let s = check.constraint.s;
     let mut v: u32 = 0;
-    let mut rest = common(trip_starts(away, home), c.s);
+    let mut rest = common(trip_starts(away, home), s);
     // from one set bit to the next, with no index: two lines, where an iterator over a mask's slots would be a type with laws
     while is_some(rest) {
         let a = first(rest);
         rest = without(rest, a);
-        v += run_figure(c, away, home, wanted, a);
+        if let Some(trip) = trip_at(away, home, s, a) {
+            v += added(trip);
+        }
     }
     v
 }
 
-// The deviation of a team whose trips make v in all: how many fewer than kmin there are in BR4, the sum itself in CA5.
-fn off_trips(c: Constraint, v: u32) -> u32
-    ensures { result ≡ of_team (kind_of c.kind) c v }
+// How far a team's games against T2 on each of its trips are outside kmin .. kmax, summed.
+fn off_trips(check: &Check, t: usize) -> u32
+    requires { t < check.now.sizes.teams }
+    ensures { result ≡ of_check off_trips check.now t }
 {
-    match Kind::of(c.kind) {
-        Kind::Br4 => u32::from(c.kmin).saturating_sub(v),
-        _ => v,
-    }
+    let c = check.constraint;
+    let wanted = check.against(Sides::Away, c.t2, t);
+    let off = |trip| outside(c.kmin, c.kmax, count_in(wanted, trip));
+    sum_trips(check, t, off)
 }
 
-// The deviation of a team.
-fn team_figure(c: Constraint, z: Season, tables: &Tables, t: usize) -> u32
-    requires { (z.slots ≤ most_slots) × (t < z.teams) × TiedGroup z.teams c.t2 tables.now }
-    ensures { result ≡ trip_figure z.teams z.slots c (x_of tables.now.meets) t }
+// How many trips fewer than kmin a team has.
+fn missing_trips(check: &Check, t: usize) -> u32
+    requires { t < check.now.sizes.teams }
+    ensures { result ≡ of_check missing_trips check.now t }
 {
-    let wanted = against(tables, Sides::Away, c.t2, t, z.teams);
-    let away = front(tables.away[t], z.slots);
-    off_trips(c, sum_trips(c, away, tables.home[t], wanted))
+    u32::from(check.constraint.kmin).saturating_sub(sum_trips(check, t, |_| 1))
 }
 
-// The deviations of CA5 and of BR4, from one team of the group to the next.
-pub fn fill_trips(c: Constraint, z: Season, tables: &Tables, out: &mut [u32])
-    requires { Fillable z.teams z.slots c tables.now out.old × IsTripKind (kind_of c.kind) }
-    ensures { out.new ≡ deviations z.teams z.slots c (x_of tables.now.meets) }
+// The deviations of CA5.
+pub fn fill_ca5(check: &Check, out: &mut [u32])
+    requires { HasRoom check.now out.old × (kind_of check.now.constraint.kind ≡ Ca5) }
+    ensures { out.new ≡ of_check dev_ca5 check.now }
 {
-    fill_each(c.t1, |t| team_figure(c, z, tables, t), out);
+    fill_each(check.constraint.t1, |t| off_trips(check, t), out);
+}
+
+// The deviations of BR4.
+pub fn fill_br4(check: &Check, out: &mut [u32])
+    requires { HasRoom check.now out.old × (kind_of check.now.constraint.kind ≡ Br4) }
+    ensures { out.new ≡ of_check dev_br4 check.now }
+{
+    fill_each(check.constraint.t1, |t| missing_trips(check, t), out);
 }

@@ -1,10 +1,12 @@
 -- Before each turn the figures of the slots passed are in. Assumes nothing.
-use Rattle.std.proofs.Common.{length, get_or}
-use Rattle.robinx.specs.Sums.{sum_to}
+use Rattle.std.proofs.Common.{◌≡◌}
+use Rattle.std.specs.List.{sum_by}
 use Rattle.robinx.specs.Groups.{bit}
 use Rattle.robinx.specs.Deviations.{outside}
-use Rattle.robinx.proofs.Filled.{FilledEach}
+use Rattle.between.proofs.SlotWalk.{SlotsPassed}
 use Rattle.between.proofs.fill_columns.Given as goal
 
-abbrev pub invariant-loop-k : goal.invariant-loop-k
-invariant-loop-k l = FilledEach l.p l.s (λ k. outside l.kmin l.kmax (sum_to (λ i. bit (get_or l.words i 0) k) (length l.words))) l.k l.at l.out
+abbrev pub invariant-loop-at : goal.invariant-loop-at
+invariant-loop-at l =
+    (l.at-iterator.iter.p ≡ l.initial.at-iterator.iter.p)
+    × SlotsPassed l.p l.fn.s (λ k. outside l.kmin l.kmax (sum_by (λ word. bit word k) l.words)) l.at-iterator.iter.iter l.at-iterator.count l.out

@@ -1,22 +1,19 @@
 -- `breaks::fill_breaks` meets its contract. Assumes nothing.
-use mathlib.Core.Path.{◌∙◌}
+use mathlib.Core.Path.{refl}
 use borrow.Author.Rules.{rules}
 use Prim.Native.Nat.{◌<◌}
 use Rattle.robinx.specs.Kinds.{form_of}
 use Rattle.robinx.specs.Deviations.{dev_br1}
-use Rattle.robinx.proofs.SetBits.{in-below}
-use Rattle.robinx.proofs.GroupSizes.{size-ones}
-use Rattle.opponents.proofs.Fillable.{limits, places_of}
+use Rattle.opponents.proofs.Checkable.{limits, member_below, team-places}
 use Rattle.breaks.proofs.fill_breaks.Goals as goal
 
 pub fill_each-requires-clause-room : goal.fill_each-requires-clause-room
 unfolding form_of
-fill_each-requires-clause-room c = let r = c.requires.0 in places_of r c.requires.1 ∙ size-ones _ _ (limits r).t1
+fill_each-requires-clause-room c = team-places c.args.check.now.checkable c.args.out.now c.requires.0 c.requires.1 refl
 
 pub fill_each-requires-clause-callable : goal.fill_each-requires-clause-callable
-fill_each-requires-clause-callable c =
-    λ t l h. let team : t < c.args.z.teams = in-below c.args.c.t1 _ (limits c.requires.0).t1 t h in search rules
+fill_each-requires-clause-callable c = λ t l h. let team : t < c.args.check.now.sizes.teams = member_below c.args.check.now.checkable t h in search rules
 
 pub returns : goal.returns
 unfolding dev_br1
-returns c = let r = c.requires.0 in c.fill_each.ensures _ _ r.teams (limits r).t1 (λ t l h v p. search rules)
+returns c = let k = c.args.check.now.checkable in c.fill_each.ensures _ _ k.teams (limits k).t1 (λ t l h v p. search rules)

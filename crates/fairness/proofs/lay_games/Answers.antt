@@ -1,11 +1,13 @@
 -- The mask's counts are those of its games. Assumes nothing.
 use mathlib.Core.Path.{◌∙◌}
-use Rattle.tables.specs.Tables.{x_of}
 use Rattle.opponents.specs.Sides.{code_of}
+use Rattle.opponents.proofs.Checkable.{limits}
 use Rattle.fairness.proofs.RunningCounts.{running-of}
 use Rattle.fairness.proofs.lay_games.Goals as goal
 
+pub against-requires : goal.against-requires
+against-requires c = (c.requires, (limits c.args.check.now.checkable).t1)
+
 pub returns : goal.returns
 returns c =
-    let a = c.args in
-    c.lay.ensures ∙ running-of a.n (x_of a.tables.now.meets) (code_of a.sides) a.group a.t c.against.result c.against.ensures
+    c.lay.ensures ∙ running-of c.args.check.now (code_of c.args.sides) c.args.t c.against.result c.against.ensures

@@ -1,55 +1,32 @@
--- `trips::sum_trips` meets its contract: before each turn the sum and what is left to add make the whole. Assumes nothing.
-use mathlib.Core.Path.{◌≡◌, sym, ◌∙◌}
-use Prim.Native.Nat.{ℕ, ◌+◌}
+-- `trips::sum_trips` meets its contract: before each turn the sum and what the runs ahead add make the whole. Assumes nothing.
+use mathlib.Core.Path.{refl, sym, ◌∙◌}
 use native.Mathlib.Omega.{arith}
-use native.Mathlib.Nat.{zero-add}
-use borrow.Author.Rules.{rules}
-use borrow.Author.Tests.{leb-true, leb-false}
-use Rattle.robinx.specs.Season.{most_slots}
-use Rattle.robinx.specs.Deviations.{over}
-use Rattle.masks.proofs.OneFewer.{over_none, over-one-fewer}
-use Rattle.trips.specs.TripFigures.{of_run, of_masks}
-use Rattle.trips.proofs.Runs.{all_runs, runs-small}
+use native.Mathlib.Nat.{add-zero}
+use borrow.Author.Tests.{leb-false}
+use Rattle.trips.proofs.TeamTrips.{run_of, none-summed, room, one-more, all-summed}
 use Rattle.trips.proofs.sum_trips.Goals as goal
-use Rattle.trips.proofs.sum_trips.Goals.{After-run_figure-v}
 
-pub loop-c-init : goal.loop-c-init
-loop-c-init c =
-    let a = c.args in
-    rw (c.common-rest.ensures, zero-add) (all_runs a.c a.away a.home a.wanted c.trip_starts.result c.trip_starts.ensures)
-
-pub first-a-requires : goal.first-a-requires
-first-a-requires c = leb-true 1 c.loop-c.rest (sym c.is_some.ensures ∙ c.loop-c-test.true)
-
--- the sum over what is left, without the run of this turn
-fewer : (c : After-run_figure-v) (g : ℕ → ℕ)
-    → over most_slots c.loop-c.rest g
-    ≡ g c.first-a.result + over most_slots c.without-rest.result g
-fewer c g =
-    let a = c.first-a in
-    rw c.without-rest.ensures
-    (over-one-fewer most_slots c.loop-c.rest a.result g a.ensures.within a.ensures.found)
-
--- with it the sum and what is left make the whole
-whole : (c : After-run_figure-v)
-    → (c.loop-c.v + c.run_figure-v.result) + over most_slots c.without-rest.result (of_run c.args.c c.args.away c.args.home c.args.wanted)
-    ≡ of_masks c.args.c c.args.away c.args.home c.args.wanted
-whole c =
-    omega (arith, c.loop-c.invariant, fewer c (of_run c.args.c c.args.away c.args.home c.args.wanted), c.run_figure-v.ensures)
-
-pub loop-c-preserved : goal.loop-c-preserved
-loop-c-preserved c = whole (goal.at.loop-c-preserved c).After-run_figure-v
+pub loop-a-init : goal.loop-a-init
+loop-a-init g c =
+    let front = c.front-away in
+    none-summed c.args.check.now c.args.t c.requires.team front.result front.ensures c.trip_starts.result c.common-rest.result
+    c.trip_starts.ensures c.common-rest.ensures
 
 pub overflow_add-v : goal.overflow_add-v
-overflow_add-v c =
-    let a = c.args in
-    omega (arith, whole (goal.at.overflow_add-v c).After-run_figure-v, runs-small a.c a.away a.home a.wanted (search rules))
+overflow_add-v g c = record { fits = room c.loop-a.invariant c.first-a.ensures _ (c.requires.small _ _ c.added-v.ensures) }
 
-pub loop-c-smaller : goal.loop-c-smaller
-loop-c-smaller c = omega (arith, fewer (goal.at.loop-c-smaller c).After-run_figure-v (λ k. 1))
+pub loop-a-preserved-in-Some : goal.loop-a-preserved-in-Some
+loop-a-preserved-in-Some g c =
+    let trip = c.in-Some.ensures in
+    let run = run_of c.args.check.now c.args.t c.requires.team c.front-away.result c.front-away.ensures c.first-a.result _ trip.1 in
+    rw c.without-rest.ensures
+    (one-more c.loop-a.invariant c.first-a.ensures _ (c.requires.small _ _ c.added-v.ensures)
+    (λ f q. rw trip.0 (q _ _ _ run c.added-v.ensures)))
+
+pub loop-a-preserved : goal.loop-a-preserved
+loop-a-preserved g c =
+    let none = rw c.in_default.is at c.trip_at.ensures in
+    rw c.without-rest.ensures (rw add-zero at (one-more c.loop-a.invariant c.first-a.ensures 0 (omega arith) (λ f q. rw none refl)))
 
 pub returns : goal.returns
-returns c =
-    let none : c.loop-c.rest ≡ 0 = omega (arith, leb-false 1 c.loop-c.rest (sym c.is_some.ensures ∙ c.loop-c-test.false)) in
-    let a = c.args in
-    omega (arith, rw none at c.loop-c.invariant, over_none most_slots (of_run a.c a.away a.home a.wanted))
+returns g c = all-summed c.loop-a.invariant (omega (arith, leb-false 1 c.loop-a.rest (sym c.is_some.ensures ∙ c.loop-a-test.false)))

@@ -1,13 +1,11 @@
--- `trips::sum_trips` meets its contract: before each turn the sum and what is left to add make the whole. Assumes nothing.
-use mathlib.Core.Path.{◌≡◌}
-use Prim.Native.Nat.{◌+◌}
+-- `trips::sum_trips` meets its contract: before each turn the sum and what the runs ahead add make the whole. Assumes nothing.
 use Rattle.robinx.specs.Season.{most_slots}
 use Rattle.robinx.specs.Deviations.{over}
-use Rattle.trips.specs.TripFigures.{of_run, of_masks}
+use Rattle.trips.proofs.TeamTrips.{Summed}
 use Rattle.trips.proofs.sum_trips.Given as goal
 
-abbrev pub invariant-loop-c : goal.invariant-loop-c
-invariant-loop-c l = l.v + over most_slots l.rest (of_run l.c l.away l.home l.wanted) ≡ of_masks l.c l.away l.home l.wanted
+abbrev pub invariant-loop-a : goal.invariant-loop-a
+invariant-loop-a g l = Summed l.away l.home l.check l.t (goal.F-post g l.added) l.rest l.v
 
-abbrev pub decreases-loop-c : goal.decreases-loop-c
-decreases-loop-c l = over most_slots l.rest (λ k. 1)
+abbrev pub decreases-loop-a : goal.decreases-loop-a
+decreases-loop-a g l = over most_slots l.rest (λ k. 1)

@@ -1,43 +1,46 @@
--- Before each turn the games at the venues of the teams passed are counted. Assumes nothing.
-use mathlib.Core.Path.{◌≡◌, refl, ap, ◌∙◌}
-use Prim.Native.Nat.{ℕ, ◌+◌, ◌≤◌}
+-- All games are the games that each team hosts. Assumes nothing.
+use mathlib.Core.Path.{sym, ◌∙◌}
+use Prim.Native.Nat.{ℕ, ◌<◌, ◌^◌}
+use native.Mathlib.Omega.{arith}
 use borrow.Author.Rules.{rules}
-use Rattle.robinx.specs.Season.{most_slots}
-use Rattle.robinx.specs.Sums.{sum_to}
-use Rattle.robinx.proofs.Sums.{sum_step}
-use Rattle.robinx.proofs.Ext.{over-ext}
+use Rattle.std.specs.List.{sum_by, range_with_len}
+use Rattle.std.proofs.lemmas.Iterator.{YieldsList-from_range, YieldsList-from_map}
+use Rattle.std.proofs.lemmas.Iterator.Consumers.{sum_by_from_yields_List, fits_by_from_yields_list}
+use Rattle.robinx.specs.Season.{most_slots, slots_of}
+use Rattle.robinx.specs.Deviations.{over}
+use Rattle.robinx.proofs.Sums.{sum_bound}
 use Rattle.tables.specs.Tables.{x_of}
 use Rattle.opponents.specs.Sides.{code_of}
-use Rattle.between.proofs.Between.{count-le, hosted-over}
+use Rattle.between.specs.Between.{hosts, of_meetings}
+use Rattle.between.specs.declared.Meetings.{Meetings}
+use Rattle.between.proofs.Between.{sum_to-range, hosted-over, hosted-le}
 use Rattle.between.proofs.Meetings.games_in.Goals as goal
-use Rattle.between.proofs.Meetings.games_in.Goals.{After-count_in-v}
 
-pub loop-i-init : goal.loop-i-init
-unfolding sum_to
-loop-i-init c = (search rules, refl)
+abbrev hosted : Meetings → ℕ → ℕ
+hosted m i = over most_slots (slots_of m.check.now.constraint) (of_meetings hosts m i)
 
--- a turn adds at most most_slots
-small : (c : After-count_in-v) → c.count_in-v.result ≤ most_slots
-small c = rw c.count_in-v.ensures (count-le c.hosted.result c.args.s)
+small : (m : Meetings) → sum_by (hosted m) (range_with_len 0 m.check.now.sizes.teams) < 2 ^ 32
+small m =
+    let r = m.check.now.checkable in
+    let c = m.check.now.constraint in
+    let n = m.check.now.sizes.teams in
+    let few = sum_bound {f = hosted m} n most_slots (λ i l. hosted-le r (slots_of c) (code_of m.sides) c.t1 c.t2 i l) in
+    rw (← sum_to-range (hosted m) n) (omega (arith, r.teams, few))
 
-pub overflow_add-v : goal.overflow_add-v
-overflow_add-v c =
-    let few = small (goal.at.overflow_add-v c).After-count_in-v in
-    let team = c.requires.0.teams in
-    search rules
-
-pub loop-i-preserved : goal.loop-i-preserved
-loop-i-preserved c =
-    let l = c.loop-i in
-    let few = small (goal.at.loop-i-preserved c).After-count_in-v in (
-      search rules,
-      rw (sum_step, ← l.invariant.1) (ap (λ (r : ℕ). l.v + r)
-          (c.count_in-v.ensures ∙ over-ext most_slots c.args.s (λ k lk e. c.hosted.ensures k lk))),
-    )
+pub sum-requires-clause-fits : goal.sum-requires-clause-fits
+sum-requires-clause-fits c =
+    let m = c.args.self in
+    let n = m.check.now.sizes.teams in
+    fits_by_from_yields_list (hosted m) (range_with_len 0 n) _ _
+    (YieldsList-from_map _ (hosted m) (YieldsList-from_range 0 n n c.map.ensures.source (omega arith)) c.map.ensures.closure (λ x r q p. search rules))
+    (small m)
 
 pub returns : goal.returns
 returns c =
-    let a = c.args in
-    let sum = hosted-over a.n (x_of a.tables.now.meets) (code_of a.self.sides) a.self.t1 a.self.t2 a.s in
-    let end : c.loop-i.i ≡ a.n = search rules in
-    rw end at c.loop-i.invariant.1 ∙ sum
+    let m = c.args.self in
+    let k = m.check.now in
+    let n = k.sizes.teams in
+    sum_by_from_yields_List (hosted m) (range_with_len 0 n) _ _ c.sum.ensures.ran
+    (YieldsList-from_map _ (hosted m) (YieldsList-from_range 0 n n c.map.ensures.source (omega arith)) c.map.ensures.closure (λ x r q p. search rules))
+    ∙ sym (sum_to-range (hosted m) n)
+    ∙ hosted-over n (x_of k.tables.now.meets) (code_of m.sides) k.constraint.t1 k.constraint.t2 (slots_of k.constraint)

@@ -4,20 +4,21 @@ use Prim.Native.Nat.{ℕ}
 use Rattle.robinx.specs.Timetable.{home_side, games_against}
 use Rattle.tables.specs.Tables.{x_of}
 use Rattle.opponents.specs.Sides.{code_of}
+use Rattle.opponents.proofs.Checkable.{limits}
 use Rattle.between.proofs.Between.{guests-lt, hosts-against}
 use Rattle.between.proofs.Meetings.hosted.Goals as goal
 
 pub against-requires : goal.against-requires
 against-requires c =
-    let a = c.args in
-    let g = c.requires.1 in
-    let small = guests-lt a.n (code_of a.self.sides) a.self.t1 a.self.t2 a.i g.group c.requires.2 in
-    (c.requires.0, record { teams = g.teams; group = rw c.guests.ensures small; tied = g.tied })
+    let m = c.args.self in
+    let l = limits m.check.now.checkable in
+    (c.requires, rw c.guests.ensures (guests-lt m.check.now.sizes.teams (code_of m.sides) m.check.now.constraint.t1 m.check.now.constraint.t2 c.args.i l.t1 l.t2))
 
 pub returns : goal.returns
 returns c k l =
-    let a = c.args in
-    let x = x_of a.tables.now.meets in
+    let m = c.args.self in
+    let n = m.check.now.sizes.teams in
+    let x = x_of m.check.now.tables.now.meets in
     c.against.ensures k l
-    ∙ ap (λ (T : ℕ). games_against a.n x home_side T a.i k) c.guests.ensures
-    ∙ hosts-against a.n x (code_of a.self.sides) a.self.t1 a.self.t2 a.i k
+    ∙ ap (λ (T : ℕ). games_against n x home_side T c.args.i k) c.guests.ensures
+    ∙ hosts-against n x (code_of m.sides) m.check.now.constraint.t1 m.check.now.constraint.t2 c.args.i k
