@@ -1,29 +1,29 @@
 -- What the tests of an admission tell, in their order: each refusal has the number of the first true sentence, and a call that
 -- passes them all has the tables of its sheet.
+use Rattle.std.proofs.lemmas.Bool.{or_parts, and_parts}
 use mathlib.Core.Path.{◌≡◌, sym, ap, ◌∙◌}
-use mathlib.Core.List.{List}
+use mathlib.Core.List.{List, [], ◌∷◌}
 use mathlib.Core.Bool.{Bool, true, false, ◌&&◌, ◌||◌, not}
 use Prim.Native.Nat.{ℕ, ◌+◌, ◌≤◌}
 use native.Mathlib.Omega.{arith}
 use lib.Dec.{eqb}
 use lib.ListN.{length}
-use borrow.Author.Tests.{eqb-true, not-false, not-true}
+use borrow.Author.Tests.{eqb-true, not-false}
 use Rattle.robinx.specs.Season.{decode, most_teams, most_slots, most_constraints}
 use Rattle.robinx.specs.Timetable.{clash}
-use Rattle.robinx.specs.Refusals.{Sentence, first_true, of_season, of_sheet, sentence7, sentence8}
+use Rattle.robinx.specs.Refusals.{Sentence, sentence, first_true, of_season, of_sheet, sentence7, sentence8}
 use Rattle.robinx.specs.Calls.{Buffers, open_fault}
 use Rattle.robinx.specs.declared.Season.{Season}
-use Rattle.robinx.proofs.Sums.{and_yes, or_no}
-use Rattle.reader.specs.Sizes.{sizes_of, Measured}
+use Rattle.robinx.proofs.Passed.{none_true}
+use Rattle.reader.specs.Sizes.{sizes_of}
 use Rattle.season.specs.Examination.{Examination}
 use Rattle.season.specs.declared.Examined.{Examined}
 use Rattle.robinx.specs.RefusalNumbers.{number_of}
 use Rattle.robinx.specs.declared.Refusal.{Refusal}
 use Rattle.robinx.specs.declared.Refusal.TheVariants.{BufferLength}
-use Rattle.robinx.specs.declared.Refusal.TheVariants.{BadSheet}
-use Rattle.std.specs.Prelude.{Ok, Err, Some, None}
+use Rattle.std.specs.Prelude.{Ok, Err}
 use Rattle.reader.proofs.Read.{slots_read, games-read, constraints-read}
-use Rattle.season.proofs.Found.{SoundSeason, accepted, refused-first, passed-on}
+use Rattle.season.proofs.Found.{SoundSeason, accepted, sizes-found, refused-first, passed-on}
 use Rattle.tables.specs.declared.Tables.{Tables}
 use Rattle.timetable.specs.OfSheet.{Teams, above, Builds}
 use Rattle.admission.specs.Admission.{Admits}
@@ -51,10 +51,10 @@ module _ (s : List ℕ) (b : Buffers) {r : Examined} (x : Examination (of_season
   rest = passed-on s (of_rest s b) x
 
   abbrev z : Season
-  z = r.sizes
+  z = r.season.sizes
 
   e : z ≡ sizes_of s
-  e = x.found.sizes
+  e = sizes-found x.found
 
   pub few-constraints : z.constraints ≤ most_constraints
   few-constraints = omega (arith, constraints-read s e, sound-season.sound.constraints)
@@ -65,7 +65,7 @@ module _ (s : List ℕ) (b : Buffers) {r : Examined} (x : Examination (of_season
 
   seven : sentence7 (decode s) (length b.sheet) (length b.ledger) (length b.tally) ≡ misfit
   unfolding sentence7
-  seven = rw (games-read s e, constraints-read s e, x.found.entries)
+  seven = rw (x.found.entries, ← games-read s e, ← constraints-read s e)
 
   pub lengths-refused : {t : Tables} → misfit ≡ true → Admits s b (Err BufferLength) t
   unfolding first_true
@@ -74,8 +74,8 @@ module _ (s : List ℕ) (b : Buffers) {r : Examined} (x : Examination (of_season
   module _ (fit : misfit ≡ false) where
     whole : length b.sheet ≡ (decode s).G
     whole =
-        let p = and_yes (eqb (length b.sheet) z.games && eqb (length b.ledger) r.entries) (eqb (length b.tally) (z.constraints + 2)) (not-false _ fit) in
-        let q = and_yes (eqb (length b.sheet) z.games) (eqb (length b.ledger) r.entries) p.0 in
+        let p = and_parts (eqb (length b.sheet) z.games && eqb (length b.ledger) r.entries) (eqb (length b.tally) (z.constraints + 2)) (not-false _ fit) in
+        let q = and_parts (eqb (length b.sheet) z.games) (eqb (length b.ledger) r.entries) p.0 in
         eqb-true _ _ q.0 ∙ games-read s e
 
     -- sentence 8, by what was read
@@ -90,10 +90,9 @@ module _ (s : List ℕ) (b : Buffers) {r : Examined} (x : Examination (of_season
     eight = rw (slots_read s e, whole)
 
     -- what the build of the tables asks for
-    pub buildable : Measured s z × Teams most_teams (decode s).home (decode s).away × (length b.sheet ≡ length (decode s).home) × (z.slots ≤ most_slots)
+    pub buildable : Teams most_teams (decode s).home (decode s).away × (length b.sheet ≡ length (decode s).home) × (z.slots ≤ most_slots)
     buildable =
         let ok = sound-season.sound in (
-          sound-season.measured e,
           record {
             few = omega arith;
             aways-length = sound-season.aways ∙ sym sound-season.homes;
@@ -107,15 +106,15 @@ module _ (s : List ℕ) (b : Buffers) {r : Examined} (x : Examination (of_season
 
     -- .. and what it tells
     module _ {t : Tables} where
-      pub sheet-refused : Builds z.slots (decode s).home (decode s).away b.sheet None t → Admits s b (Err BadSheet) t
+      pub sheet-refused : {n : Refusal} → Builds z.slots (decode s).home (decode s).away b.sheet (Err n) t → Admits s b (Err n) t
       unfolding first_true
-      sheet-refused w = refusal BadSheet (rest ∙ rw (seven, fit, eight, not-false bad (sym w.answer)))
+      sheet-refused {n} w = refusal n (rest ∙ rw (seven, fit, eight) (sym w.number))
 
-      pub admitted : {a : Admitted} → a.season.bytes.now ≡ s → Builds z.slots (decode s).home (decode s).away b.sheet (Some a.unplaced) t
+      pub admitted : {a : Admitted} → a.season.bytes.now ≡ s → Builds z.slots (decode s).home (decode s).away b.sheet (Ok a.unplaced) t
           → Admits s b (Ok a) t
       unfolding first_true
       admitted here w =
-          let good = not-true bad (sym w.answer) in
+          let good = (none_true (sentence 8 bad ∷ []) (sym w.number)).0 in
           let passed : open_fault s b ≡ 0 = rest ∙ rw (seven, fit, eight, good) in
           record {
             number = sym passed;
@@ -123,7 +122,7 @@ module _ (s : List ℕ) (b : Buffers) {r : Examined} (x : Examination (of_season
               same = here;
               ready = record {
                 passed = passed;
-                tables = record { no-clash = sym (ap not (or_no (above z.slots b.sheet) collides good).1); shows = λ _. w.shows };
+                tables = record { no-clash = sym (ap not (or_parts (above z.slots b.sheet) collides good).1); shows = λ _. w.shows };
                 count = rw (← sound-season.homes) w.count;
               };
             };

@@ -29,8 +29,9 @@ pub fn lengths_bad(z: Season, entries: usize, sheet: usize, ledger: usize, tally
     !((sheet == z.games) & (ledger == entries) & (tally == z.constraints + 2))
 }
 
-// Sentence 8, by building the tables of the sheet; None: it holds. Else the number of unplaced games.
-pub fn lay_tables(season: SeasonView, sheet: &[u8], tables: &mut Tables) -> Option<usize>
+// Sentence 8, by building the tables of the sheet; else the number of unplaced games.
+#[tactic(auto, unfolding(robinx::specs::Season::decode))]
+pub fn lay_tables(season: SeasonView, sheet: &[u8], tables: &mut Tables) -> Result<usize, Refusal>
     requires { Teams most_teams (decode season.bytes.now).home (decode season.bytes.now).away
         × (length sheet.now ≡ length (decode season.bytes.now).home) × (season.sizes.slots ≤ most_slots) × Empty tables.old }
     ensures { Builds season.entry.sizes.slots (decode season.entry.bytes.now).home (decode season.entry.bytes.now).away sheet.now result tables.new }
@@ -56,13 +57,16 @@ pub fn admit<'a>(
     ensures { Admits bytes.now (buffers sheet.now ledger.now tally.now) result tables.new }
 {
     let found = season::examine(bytes)?;
-    let sizes = found.sizes;
-    if lengths_bad(sizes, found.entries, sheet.len(), ledger.len(), tally.len()) {
+    let season = found.season;
+    if lengths_bad(
+        season.sizes,
+        found.entries,
+        sheet.len(),
+        ledger.len(),
+        tally.len(),
+    ) {
         return Err(Refusal::BufferLength);
     }
-    let season = SeasonView { bytes, sizes };
-    match lay_tables(season, sheet, tables) {
-        Some(unplaced) => Ok(Admitted { season, unplaced }),
-        None => Err(Refusal::BadSheet),
-    }
+    let unplaced = lay_tables(season, sheet, tables)?;
+    Ok(Admitted { season, unplaced })
 }

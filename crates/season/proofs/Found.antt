@@ -14,7 +14,7 @@ use Rattle.robinx.specs.declared.Season.{Season}
 use Rattle.robinx.proofs.Limits.{Sound, sound, decode-home, decode-away}
 use Rattle.robinx.proofs.Passed.{none_true, or_else, first-of-both}
 use Rattle.season.specs.declared.Examined.{Examined}
-use Rattle.season.specs.Examination.{Examination}
+use Rattle.season.specs.Examination.{Found, Examination}
 use Rattle.reader.specs.Sizes.{sizes_of, Measured}
 use Rattle.reader.proofs.Read.{length-asked, sizes-tested, in-range, right-length, as_many, teams-read}
 use Rattle.games.proofs.Meetings.{games-alone}
@@ -55,6 +55,10 @@ module _ (s : List ℕ) (l : List Sentence) where
 
   pub passed-on : {e : Examined} → Examination (of_season s) s (Ok e) → first_true (of_season s ++ l) ≡ first_true l
   passed-on x = first-of-both (of_season s) l tt ∙ rw (← x.fault)
+
+-- the sizes that were found are the season's
+pub sizes-found : {s : List ℕ} {e : Examined} → Found s e → e.season.sizes ≡ sizes_of s
+sizes-found {e = e} x = rw x.same at e.season.measured.sizes
 
 pub accepted : {s : List ℕ} {e : Examined} → Examination (of_season s) s (Ok e) → SoundSeason s
 accepted {s} x = no-fault s (sym x.fault)

@@ -1,5 +1,5 @@
 -- One pass over the constraints finds sentence 5 and carries the number of deviations.
-use mathlib.Core.Path.{◌≡◌, refl, sym}
+use mathlib.Core.Path.{◌≡◌, refl, sym, subst, ◌∙◌}
 use mathlib.Core.List.{List, [], ◌∷◌}
 use mathlib.Core.Bool.{Bool, true, false, not}
 use Prim.Native.Nat.{ℕ, ◌+◌, ◌*◌, ◌<◌, ◌≤◌}
@@ -18,6 +18,7 @@ use Rattle.robinx.proofs.Bounds.{entries-small}
 use Rattle.rules.specs.CountedBits.{ones_in}
 use Rattle.rules.proofs.Members.{entries-counted}
 use Rattle.reader.specs.Sizes.{Measured}
+use Rattle.reader.specs.declared.view.SeasonView.{SeasonView}
 use Rattle.reader.proofs.Read.{teams-read, slots_read, constraints-read, SizesInRange}
 use Rattle.season.specs.Examination.{Examination}
 
@@ -33,7 +34,16 @@ pub kept-none : (m : Instance) → Kept m 0 0
 unfolding any_to start_at sum_to
 kept-none m = record { rules = refl; entries = refl }
 
-module _ (s : List ℕ) (z : Season) (measured : Measured s z) where
+module _ (v : SeasonView) where
+  abbrev s : List ℕ
+  s = v.bytes.now
+
+  abbrev z : Season
+  z = v.sizes
+
+  measured : Measured s z
+  measured = v.measured
+
   -- the rules' answer about constraint k
   answer : (k : ℕ) {c : Constraint} {b : Bool} → c ≡ (decode s).constraint k → b ≡ obeys z.teams z.slots c
       → obeys (decode s).n (decode s).P ((decode s).constraint k) ≡ b
@@ -63,8 +73,8 @@ module _ (s : List ℕ) (z : Season) (measured : Measured s z) where
       record { fault = rw bad; found = tt }
 
   pub kept-all : {k e : ℕ} → k ≡ z.constraints → Kept (decode s) k e
-      → Examination (sentence 5 (sentence5 (decode s)) ∷ []) s (Ok (record { sizes = z; entries = e }))
+      → Examination (sentence 5 (sentence5 (decode s)) ∷ []) s (Ok (record { season = v; entries = e }))
   unfolding first_true sentence5
-  kept-all l old =
-      let all = rw (l, constraints-read s measured.sizes) at old in
-      record { fault = rw all.rules; found = record { sizes = measured.sizes; entries = all.entries } }
+  kept-all {e = e} l old =
+      let all = subst (λ (k : ℕ). Kept (decode s) k e) (l ∙ constraints-read s measured.sizes) old in
+      record { fault = rw all.rules; found = record { same = refl; entries = all.entries } }

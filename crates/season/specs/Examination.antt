@@ -5,12 +5,11 @@ use Rattle.robinx.specs.Books.{all_entries}
 use Rattle.robinx.specs.Refusals.{Sentence, first_true}
 use Rattle.robinx.specs.RefusalNumbers.{fault_of}
 use Rattle.robinx.specs.declared.Refusal.{Refusal}
-use Rattle.reader.specs.Sizes.{sizes_of}
 use Rattle.season.specs.declared.Examined.{Examined}
 
--- what was found in a season that is accepted: the sizes and E
+-- what was found in a season that is accepted: that season, and E
 pub record Found (s : List ℕ) (e : Examined) : Type 0 where
-  pub sizes : e.sizes ≡ sizes_of s
+  pub same : e.season.bytes.now ≡ s
   pub entries : e.entries ≡ all_entries (decode s)
 
 -- the number of the first true sentence about s, or 0 and then what was found

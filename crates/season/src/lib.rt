@@ -11,10 +11,10 @@ ghost use Rattle.season.specs.Examination.{Examination};
 use reader::view::SeasonView;
 use robinx::{Refusal, Season};
 
-// What the examination of an accepted season finds: its sizes and the number of deviations.
+// What the examination of an accepted season finds: the season with its sizes, and the number of deviations.
 #[derive(Clone, Copy)]
-pub struct Examined {
-    pub sizes: Season,
+pub struct Examined<'a> {
+    pub season: SeasonView<'a>,
     pub entries: usize,
 }
 
@@ -48,24 +48,23 @@ fn meetings_bad(season: SeasonView) -> bool
 }
 
 // Sentence 5 and the number of deviations, up to a constraint that breaks a rule.
-fn examine_constraints(season: SeasonView) -> Result<Examined, Refusal>
+fn examine_constraints<'a>(season: SeasonView<'a>) -> Result<Examined<'a>, Refusal>
     requires { out_of_range season.sizes ≡ false }
     ensures { Examination (sentence 5 (sentence5 (decode season.entry.bytes.now)) ∷ []) season.entry.bytes.now result }
 {
-    let sizes = season.sizes;
     let mut entries = 0;
     for c in season.constraints() {
-        if !kind_rules::obeys(c, sizes) {
+        if !kind_rules::obeys(c, season.sizes) {
             return Err(Refusal::BadConstraint);
         }
         entries += kinds::entries_of(c);
     }
-    Ok(Examined { sizes, entries })
+    Ok(Examined { season, entries })
 }
 
 // Any bytes, by sentences 1 to 5.
 #[tactic(auto, using(crate::proofs::Found::examined), unfolding(robinx::specs::Refusals::sentence1, robinx::specs::Refusals::first_true))]
-pub fn examine(season: &[u8]) -> Result<Examined, Refusal>
+pub fn examine<'a>(season: &'a [u8]) -> Result<Examined<'a>, Refusal>
     ensures { Examination (of_season season.now) season.now result }
 {
     if season.len() < 6 {

@@ -11,7 +11,7 @@ const MOST_BYTES: usize = 65536;
 fn print_case(rt: &impl Print, season: &[u8]) -> io::Result<()> {
     match season::examine(season) {
         Ok(found) => println!(rt; "0 {}", found.entries),
-        Err(refusal) => println!(rt; "{}", refusal.number()),
+        Err(refusal) => println!(rt; "{}", u8::from(refusal)),
     }
 }
 

@@ -2,8 +2,8 @@
 -- it differs from the patterns.
 use mathlib.Core.Path.{◌≡◌, refl, sym, ap, ap₂, ◌∙◌}
 use mathlib.Core.List.{List, [], ◌∷◌, ◌++◌}
-use mathlib.Core.Bool.{Bool, ◌||◌, not, or_assoc, or-false}
-use Prim.Native.Nat.{ℕ, zero, suc, ◌+◌, ◌-◌, ◌<◌}
+use mathlib.Core.Bool.{Bool, true, false, ◌&&◌, ◌||◌, not, or_assoc, or-false}
+use Prim.Native.Nat.{ℕ, zero, suc, ◌+◌, ◌-◌, ◌<◌, ◌≤◌}
 use native.Mathlib.Omega.{arith}
 use native.Mathlib.Nat.{add-zero, zero-add, add-suc}
 use native.Mathlib.Decide.{dec_lt}
@@ -17,7 +17,9 @@ use Rattle.robinx.specs.Refusals.{sentence14_open, disagrees}
 use Rattle.robinx.proofs.Ext.{any-ext}
 use Rattle.robinx.proofs.Summary.{length-words, home-word, away-word}
 use Rattle.tables.specs.declared.Patterns.{Patterns}
-use Rattle.std.specs.List.{zip, list_any}
+use Rattle.std.specs.Cmp.Lexicographic.{pointwise}
+use Rattle.std.specs.List.{between}
+use Rattle.std.proofs.lemmas.List.Edits.{length-between, get_or-between}
 use Rattle.std.proofs.lemmas.List.{append-nil, drop_all, take_at, get_or_append_left, get_or-append-add}
 use Rattle.summary.specs.PatternWords.{words_of}
 
@@ -41,9 +43,9 @@ laid l home away n h a =
     (drop_all summary_words (home ++ drop most_teams l) (omega (arith, length-append home (drop most_teams l), length-drop most_teams l)))
     ∙ append-nil (home ++ away)
 
-pub two-halves-are-the-words : (p : Patterns) (l : List ℕ) → length l ≡ summary_words → length p.home ≡ most_teams → length p.away ≡ most_teams
+pub halves_are_the_words : (p : Patterns) (l : List ℕ) → length l ≡ summary_words → length p.home ≡ most_teams → length p.away ≡ most_teams
     → take most_teams (take 0 l ++ p.home ++ drop most_teams l) ++ p.away ++ drop summary_words (take 0 l ++ p.home ++ drop most_teams l) ≡ words_of p
-two-halves-are-the-words p l n h a =
+halves_are_the_words p l n h a =
     laid l p.home p.away n h a
     ∙ words-by-teams (p.home ++ p.away) (length-append p.home p.away ∙ omega arith)
     (λ t low. get_or_append_left p.home p.away 0 t (omega arith))
@@ -55,14 +57,19 @@ unfolding any_to
 any-first f zero = rw or-false
 any-first f (suc n) = ap (λ (b : Bool). b || f (suc n)) (any-first f n) ∙ or_assoc (f 0) (any_to (λ k. f (suc k)) n) (f (suc n))
 
-pub any-zip : (xs ys : List ℕ) → length xs ≡ length ys
-    → list_any (λ p. not (eqb p.0 p.1)) (zip xs ys) ≡ any_to (λ t. not (eqb (get_or xs t 0) (get_or ys t 0))) (length ys)
+one-fails : (a b : Bool) → not (a && b) ≡ not a || not b
+one-fails true b = refl
+one-fails false b = refl
+
+differs-somewhere : (xs ys : List ℕ) → length xs ≡ length ys
+    → not (pointwise eqb xs ys) ≡ any_to (λ t. not (eqb (get_or xs t 0) (get_or ys t 0))) (length ys)
 unfolding any_to
-any-zip [] [] e = refl
-any-zip [] (y ∷ ys) e = absurd (omega arith)
-any-zip (x ∷ xs) [] e = absurd (omega arith)
-any-zip (x ∷ xs) (y ∷ ys) e =
-    ap (λ (b : Bool). not (eqb x y) || b) (any-zip xs ys (omega arith))
+differs-somewhere [] [] e = refl
+differs-somewhere [] (y ∷ ys) e = absurd (omega arith)
+differs-somewhere (x ∷ xs) [] e = absurd (omega arith)
+differs-somewhere (x ∷ xs) (y ∷ ys) e =
+    one-fails (eqb x y) (pointwise eqb xs ys)
+    ∙ ap (λ (b : Bool). not (eqb x y) || b) (differs-somewhere xs ys (omega arith))
     ∙ sym (any-first (λ t. not (eqb (get_or (x ∷ xs) t 0) (get_or (y ∷ ys) t 0))) (length ys))
 
 any-split : (f : ℕ → Bool) (a w : ℕ) → any_to f (a + w) ≡ any_to f a || any_to (λ d. f (a + d)) w
@@ -75,6 +82,14 @@ any-split f a (suc w) =
 -- what looking at one half, from place at on, finds
 abbrev pub other_in : List ℕ → List ℕ → ℕ → ℕ → Bool
 other_in held half at t = not (eqb (get_or held (at + t) 0) (get_or half t 0))
+
+pub half_by_words : (held half : List ℕ) (at : ℕ) → length half ≡ most_teams → at + most_teams ≤ length held
+    → not (pointwise eqb (between at (at + most_teams) held) half) ≡ any_to (other_in held half at) most_teams
+half_by_words held half at long low =
+    let part = between at (at + most_teams) held in
+    differs-somewhere part half (length-between held at (at + most_teams) low ∙ omega (arith, long))
+    ∙ ap (any_to (λ t. not (eqb (get_or part t 0) (get_or half t 0)))) long
+    ∙ any-ext most_teams (λ t l. ap (λ (v : ℕ). not (eqb v (get_or half t 0))) (get_or-between held at (at + most_teams) t 0 (omega arith)))
 
 pub differs_in_a_half : (p : Patterns) (held : List ℕ)
     → disagrees held (words_of p)

@@ -32,6 +32,7 @@ fn lay_half(half: [Slots; Season::TEAMS], at: usize, summary: &mut [u64])
 }
 
 // Writes every word.
+#[tactic(auto, using(crate::proofs::Words::halves_are_the_words))]
 pub fn lay(patterns: Patterns, summary: &mut [u64])
     requires { length summary.old ≡ summary_words }
     ensures { summary.new ≡ words_of patterns }
@@ -41,14 +42,12 @@ pub fn lay(patterns: Patterns, summary: &mut [u64])
 }
 
 // A word of one half, from place at on, is another one.
+#[tactic(auto, using(crate::proofs::Words::half_by_words))]
 fn half_differs(half: [Slots; Season::TEAMS], at: usize, summary: &[u64]) -> bool
     requires { at + most_teams ≤ length summary.now }
     ensures { result ≡ any_to (λ t. not (eqb (get_or summary.now (at + t) 0) (get_or half t 0))) most_teams }
 {
-    summary[at..at + Season::TEAMS]
-        .iter()
-        .zip(&half)
-        .any(|(word, right)| *word != *right)
+    summary[at..at + Season::TEAMS] != half[..]
 }
 
 // Sentence 14 of set and exchange, by the patterns of the sheet.

@@ -3,11 +3,24 @@
 
 #![tactic(auto)]
 
-ghost use Rattle.std.specs.Prelude.{◌≡◌, suc, ◌<◌, ◌≤◌};
+ghost use Rattle.std.specs.Prelude.{◌≡◌, suc, ◌<◌, ◌≤◌, is_ok};
 ghost use Rattle.robinx.specs.Season.{most_teams, most_slots};
+ghost use Rattle.robinx.specs.declared.Refusal.TheVariants.{TeamBusy};
 ghost use Rattle.tables.specs.Tables.{busy, taken_out_of, Tried, Empty};
 
-use robinx::{Season, Slots};
+use robinx::{Refusal, Season, Slots};
+
+// A team would have two games in a slot.
+#[derive(Clone, Copy, Debug, PartialEq, Eq)]
+pub struct Clash;
+
+impl From<Clash> for Refusal {
+    ghost from_gives = { λ _ refusal. refusal ≡ TeamBusy };
+
+    fn from(_clash: Clash) -> Self {
+        Refusal::TeamBusy
+    }
+}
 
 // The home-away patterns of all teams: the slots in which each plays at home, and those in which it plays away. They travel by value.
 #[derive(Clone, Copy)]
@@ -44,19 +57,19 @@ impl Tables {
         masks::is_in(self.home[t], k) | masks::is_in(self.away[t], k)
     }
 
-    // Puts i at home against j into slot k, or says that one of them is busy there and changes nothing.
-    pub fn place(&mut self, i: usize, j: usize, k: usize) -> bool
+    // Puts i at home against j into slot k, or changes nothing where one of them is busy.
+    pub fn place(&mut self, i: usize, j: usize, k: usize) -> Result<(), Clash>
         requires { (i < most_teams) × (j < most_teams) × (k < most_slots) }
-        ensures { Tried result i j (suc k) self.old self.new }
+        ensures { Tried (is_ok result) i j (suc k) self.old self.new }
     {
         if self.busy(i, k) | self.busy(j, k) {
-            return false;
+            return Err(Clash);
         }
         let q = i * Season::TEAMS + j;
         self.home[i] = masks::joined(self.home[i], k);
         self.away[j] = masks::joined(self.away[j], k);
         self.meets[q] = masks::joined(self.meets[q], k);
-        true
+        Ok(())
     }
 
     // Takes i at home against j out of slot k.
@@ -70,15 +83,14 @@ impl Tables {
         self.meets[q] = masks::without(self.meets[q], k);
     }
 
-    // Puts i at home against j into the slot of byte b of a sheet, of which 0 is no slot, or says that one of them is busy there and changes
-    // nothing.
-    pub fn put(&mut self, i: u8, j: u8, b: u8) -> bool
+    // Puts i at home against j into the slot of byte b of a sheet, of which 0 is no slot, or changes nothing where one of them is busy.
+    pub fn put(&mut self, i: u8, j: u8, b: u8) -> Result<(), Clash>
         requires { (i < most_teams) × (j < most_teams) × (b ≤ most_slots) }
-        ensures { Tried result i j b self.old self.new }
+        ensures { Tried (is_ok result) i j b self.old self.new }
     {
         match b.checked_sub(1) {
             Some(k) => self.place(usize::from(i), usize::from(j), usize::from(k)),
-            None => true,
+            None => Ok(()),
         }
     }
 

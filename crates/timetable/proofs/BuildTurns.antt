@@ -1,25 +1,39 @@
 -- The turns of build, and the three ways in which it ends. Assumes nothing.
 use mathlib.Core.Path.{◌≡◌, refl, sym, ap, ◌∙◌}
 use mathlib.Core.List.{List}
-use mathlib.Core.Bool.{Bool, true, false, ◌||◌, not, or-true}
+use mathlib.Core.Bool.{Bool, true, false, ◌||◌, or-true}
 use Prim.Native.Nat.{ℕ, suc, ◌+◌, ◌<◌, ◌≤◌}
 use native.Mathlib.Omega.{arith}
 use native.Mathlib.Numerals.{add-one}
 use lib.Dec.{eqb, ltb}
 use lib.ListN.{length, get_or, length-replicate}
-use borrow.Author.Tests.{lt-ltb, le-ltb, not-false}
+use borrow.Author.Tests.{lt-ltb, le-ltb, not-true, not-false}
 use Rattle.robinx.specs.Sums.{sum_to, any_to, only}
 use Rattle.robinx.specs.Season.{most_teams, most_slots}
 use Rattle.robinx.specs.Timetable.{clash}
+use Rattle.robinx.specs.Refusals.{first_true}
+use Rattle.robinx.specs.declared.Refusal.{Refusal}
+use Rattle.robinx.specs.declared.Refusal.TheVariants.{BadSheet}
 use Rattle.robinx.proofs.Sums.{any_some, any_step}
 use Rattle.tables.specs.declared.Tables.{Tables}
+use Rattle.tables.specs.declared.Clash.{Clash}
 use Rattle.tables.specs.Tables.{Tried}
 use Rattle.tables.specs.Tables.{Empty}
 use Rattle.timetable.specs.OfSheet.{Teams, InRange, Fits, unplaced, above, Builds}
-use Rattle.std.specs.Prelude.{Some, None}
+use Rattle.std.specs.Prelude.{Result, Ok, Err, is_ok}
+use Rattle.std.specs.Result.{result_or}
 use Rattle.timetable.proofs.Laws.{in-range-set}
 use Rattle.timetable.proofs.TableSteps.{fits-tried}
 use Rattle.timetable.proofs.FirstGames.{placed_to, none-at, later, all_placed, clash-of-first, fits-none, unplaced-next}
+
+-- a try whose error is the refusal of the sheet
+pub try-failed : (r : Result (Unit {0}) Clash) {e : Refusal} → Err e ≡ result_or r (Err BadSheet) → (is_ok r ≡ false) × (e ≡ BadSheet)
+try-failed (Ok x) h = cc
+try-failed (Err c) h = (refl, cc)
+
+pub try-held : (r : Result (Unit {0}) Clash) {x : Unit {0}} → Ok x ≡ result_or r (Err BadSheet) → is_ok r ≡ true
+try-held (Ok x) h = refl
+try-held (Err c) h = cc
 
 -- Before turn g the first g games fit and are in the tables, and those of them that have no slot are counted.
 pub record Begun (p : ℕ) (homes aways sheet : List ℕ) (g : ℕ) (t : Tables) (u : ℕ) : Type 0 where
@@ -44,18 +58,20 @@ module _ {p : ℕ} {homes aways sheet : List ℕ} (sized : length sheet ≡ leng
     count = refl;
   }
 
-  unfit : {t : Tables} → above p sheet || clash homes aways sheet ≡ true → Builds p homes aways sheet None t
-  unfit bad = record { answer = sym (ap not bad); shows = tt; count = tt }
+  unfit : {t : Tables} → above p sheet || clash homes aways sheet ≡ true → Builds p homes aways sheet (Err BadSheet) t
+  unfolding first_true
+  unfit bad = record { number = rw bad; shows = tt; count = tt }
 
   -- it ends at a byte above p
-  pub ends_above : (g : ℕ) {t : Tables} → g < length homes → p < get_or sheet g 0 → Builds p homes aways sheet None t
+  pub ends_above : (g : ℕ) {t : Tables} → g < length homes → p < get_or sheet g 0 → Builds p homes aways sheet (Err BadSheet) t
   ends_above g low high =
       unfit (rw (any_some (λ h. ltb p (get_or sheet h 0)) (length sheet) g (omega arith) (lt-ltb p (get_or sheet g 0) high)))
 
   module _ {g u : ℕ} {t : Tables} (b : Begun p homes aways sheet g t u) where
     -- .. after the last game
-    pub ends-whole : g ≡ length homes → Builds p homes aways sheet (Some u) t
-    ends-whole e = record { answer = rw none (rw all at b.fits.no-clash); shows = rw all at (b.fits.shows refl); count = rw (← e) b.count }
+    pub ends-whole : g ≡ length homes → Builds p homes aways sheet (Ok u) t
+    unfolding first_true
+    ends-whole e = record { number = rw (none, not-true _ (sym (rw all at b.fits.no-clash))); shows = rw all at (b.fits.shows refl); count = rw (← e) b.count }
       where
         all : placed_to sheet g ≡ sheet
         all = ap (placed_to sheet) (e ∙ sym sized) ∙ all_placed sheet
@@ -68,10 +84,10 @@ module _ {p : ℕ} {homes aways sheet : List ℕ} (sized : length sheet ≡ leng
       next_fits : Fits most_teams r t' homes aways (placed_to sheet (suc g))
       unfolding placed_to
       next_fits =
-          fits-tried b.range g low true r (get_or sheet g 0) (omega arith) (later sheet g g (omega arith)) b.fits tried
+          fits-tried b.range g low r (get_or sheet g 0) (omega arith) (later sheet g g (omega arith)) b.fits tried
 
       -- .. where a team is busy
-      pub ends-busy : r ≡ false → Builds p homes aways sheet None t'
+      pub ends-busy : r ≡ false → Builds p homes aways sheet (Err BadSheet) t'
       ends-busy e =
           unfit (rw (clash-of-first sheet homes aways (suc g) (omega arith) (not-false _ (sym next_fits.no-clash ∙ e)), or-true))
 

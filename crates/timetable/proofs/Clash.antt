@@ -8,9 +8,10 @@ use native.Mathlib.Decide.{ℕ_discrete}
 use lib.Dec.{eqb, ltb}
 use lib.ListN.{length, get_or}
 use borrow.Author.Tests.{eqb-true, eqb-false, eq-eqb, ne_eqb, not-true, ltb-true, ltb-false}
+use Rattle.std.proofs.lemmas.Bool.{and_parts}
 use Rattle.robinx.specs.Sums.{sum_to, any_to, only}
 use Rattle.robinx.specs.Timetable.{share_team, collide, clash}
-use Rattle.robinx.proofs.Sums.{and_yes, any_some, any-is-sum}
+use Rattle.robinx.proofs.Sums.{any_some, any-is-sum}
 
 -- what is found where a sum is not 0, or some test passes
 pub sum-found : (f : ℕ → ℕ) (n : ℕ) → 0 < sum_to f n → (k : ℕ) × (k < n) × (0 < f k)
@@ -101,8 +102,8 @@ module _ (homes aways : List ℕ) where
     clash-is e =
         let a = any_found _ (length homes) e in
         let b = any_found _ a.0 a.2 in
-        let parts = and_yes (not (eqb (get_or sheet a.0 0) 0) && eqb (get_or sheet a.0 0) (get_or sheet b.0 0)) _ b.2 in
-        let slots = and_yes (not (eqb (get_or sheet a.0 0) 0)) _ parts.0 in
+        let parts = and_parts (not (eqb (get_or sheet a.0 0) 0) && eqb (get_or sheet a.0 0) (get_or sheet b.0 0)) _ b.2 in
+        let slots = and_parts (not (eqb (get_or sheet a.0 0) 0)) _ parts.0 in
         let placed = eqb-false (get_or sheet a.0 0) 0 (not-true (eqb (get_or sheet a.0 0) 0) slots.0) in
         found a.0 b.0 (get_or sheet a.0 0 - 1) a.1 b.1 (omega arith)
         (sym (eqb-true (get_or sheet a.0 0) (get_or sheet b.0 0) slots.1))

@@ -10,12 +10,13 @@ use lib.Dec.{eqb, ltb, eqb-zero-suc}
 use lib.ListN.{length, get_or, set, replicate, length-set, length-replicate}
 use lib.Seq.{get_or-set_same, get_or-set_other, ext_get_or}
 use borrow.Author.Tests.{ltb-true, ltb-false}
+use Rattle.std.proofs.lemmas.Bool.{false_from_ne_true}
+use Rattle.std.proofs.lemmas.Nat.Bits.{bit_at-zero}
 use Rattle.robinx.specs.Sums.{only}
 use Rattle.robinx.specs.Groups.{bit}
 use Rattle.robinx.specs.Season.{most_teams, most_places}
 use Rattle.robinx.specs.Timetable.{is_at, meetings, clash}
-use Rattle.robinx.proofs.Sums.{never, only-le, sum-zero, sum_step, sum_bound}
-use Rattle.robinx.proofs.Bits.{none-bit}
+use Rattle.robinx.proofs.Sums.{only-le, sum-zero, sum_step, sum_bound}
 use Rattle.tables.specs.declared.Tables.{Tables}
 use Rattle.tables.specs.Tables.{cell, x_of}
 use Rattle.tables.specs.Tables.{Empty}
@@ -33,7 +34,7 @@ none-at (suc n) zero = refl
 none-at (suc n) (suc q) = none-at n q
 
 none-bit-at : (n : ℕ) (l : List ℕ) (q k : ℕ) → l ≡ replicate n 0 → bit (get_or l q 0) k ≡ 0
-none-bit-at n l q k e = ap (λ (z : List ℕ). bit (get_or z q 0) k) e ∙ ap (λ (w : ℕ). bit w k) (none-at n q) ∙ none-bit k
+none-bit-at n l q k e = ap (λ (z : List ℕ). bit (get_or z q 0) k) e ∙ ap (λ (w : ℕ). bit w k) (none-at n q) ∙ bit_at-zero k
 
 module _ (sheet : List ℕ) where
   placed-length : (g : ℕ) → length (placed_to sheet g) ≡ length sheet
@@ -77,7 +78,7 @@ module _ (n : ℕ) (homes aways sheet : List ℕ) where
   pub fits-none : (t : Tables) → Empty t → Fits n true t homes aways (placed_to sheet 0)
   unfolding meetings is_at
   fits-none t empty = record {
-    no-clash = sym (ap not (never _ (λ e. let c = clash-is homes aways (placed_to sheet 0) e in omega (arith, later sheet 0 c.g (omega arith), (c.first).slot))));
+    no-clash = sym (ap not (false_from_ne_true _ (λ e. let c = clash-is homes aways (placed_to sheet 0) e in omega (arith, later sheet 0 c.g (omega arith), (c.first).slot))));
     shows = λ e. record {
       tied = record {
         sized = record {

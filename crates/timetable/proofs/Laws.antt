@@ -7,10 +7,11 @@ use native.Mathlib.Omega.{arith}
 use native.Mathlib.Decide.{ℕ_discrete}
 use lib.ListN.{length, get_or, set, length-set}
 use lib.Seq.{get_or-set_same, get_or-set_other, set-set, set-get_or}
+use Rattle.std.proofs.lemmas.Bool.{or_parts, false_from_ne_true}
 use Rattle.robinx.specs.Groups.{has}
 use Rattle.robinx.specs.Season.{most_slots}
 use Rattle.robinx.specs.Timetable.{meetings, clash}
-use Rattle.robinx.proofs.Sums.{or_no, never, term-le-sum}
+use Rattle.robinx.proofs.Sums.{term-le-sum}
 use Rattle.robinx.proofs.Bits.{out-bit}
 use Rattle.tables.specs.declared.Tables.{Tables}
 use Rattle.tables.specs.Tables.{tables, cell, x_of, Sized, busy, taken, put_into, taken_out_of}
@@ -53,7 +54,7 @@ pub clash-lift : (homes aways sheet : List ℕ) (g : ℕ)
     → g < length sheet
     → clash homes aways sheet ≡ false
     → clash homes aways (set sheet g 0) ≡ false
-clash-lift homes aways sheet g low none = never _ (λ e. true≢false (sym (back e) ∙ none))
+clash-lift homes aways sheet g low none = false_from_ne_true _ (λ e. true≢false (sym (back e) ∙ none))
   where
     back : clash homes aways (set sheet g 0) ≡ true → clash homes aways sheet ≡ true
     back e =
@@ -62,7 +63,7 @@ clash-lift homes aways sheet g low none = never _ (λ e. true≢false (sym (back
 
 same_test : (a b : Bool) → (a ≡ true → b ≡ true) → (b ≡ true → a ≡ true) → a ≡ b
 same_test true b to from = sym (to refl)
-same_test false b to from = sym (never b (λ e. true≢false (sym (from e))))
+same_test false b to from = sym (false_from_ne_true b (λ e. true≢false (sym (from e))))
 
 -- Game g of a sheet whose tables these are.
 module _ {n : ℕ} {t : Tables} {homes aways sheet : List ℕ} (range : InRange n homes aways sheet) (g : ℕ) (low : g < length homes)
@@ -130,9 +131,9 @@ module _ {n : ℕ} {t : Tables} {homes aways sheet : List ℕ} (range : InRange 
     pub place-law : taken t.home t.away (get_or homes g 0) (get_or aways g 0) k ≡ false
         → Shows n (put_into (get_or homes g 0) (get_or aways g 0) (suc k) t) homes aways (set sheet g (suc k))
     place-law none =
-        let free = or_no (busy t.home t.away i k) (busy t.home t.away j k) none in
-        let host = or_no (has (get_or t.home i 0) k) (has (get_or t.away i 0) k) free.0 in
-        let guest = or_no (has (get_or t.home j 0) k) (has (get_or t.away j 0) k) free.1 in
+        let free = or_parts (busy t.home t.away i k) (busy t.home t.away j k) none in
+        let host = or_parts (has (get_or t.home i 0) k) (has (get_or t.away i 0) k) free.0 in
+        let guest = or_parts (has (get_or t.home j 0) k) (has (get_or t.away j 0) k) free.1 in
         let at_home = out-bit (get_or t.home i 0) k host.0 in
         let at-away = out-bit (get_or t.away j 0) k guest.1 in
         let not-met : x_of t.meets i j k ≡ 0 =

@@ -6,5 +6,6 @@ pub mod PlacedGames
 pub mod Laws
 pub mod TableSteps
 pub mod FirstGames
+pub mod SideBySide
 pub mod BuildTurns
 pub mod Fewer

@@ -7,12 +7,12 @@ use native.Mathlib.Omega.{arith}
 use lib.Dec.{eqb}
 use lib.ListN.{length, get_or}
 use borrow.Author.Tests.{eqb-true, eq-eqb}
+use Rattle.std.proofs.lemmas.Bool.{and_parts}
 use Rattle.robinx.specs.Sums.{only}
 use Rattle.robinx.specs.Groups.{bit, has}
 use Rattle.robinx.specs.Season.{most_slots}
 use Rattle.robinx.specs.Timetable.{is_at, meetings}
-use Rattle.robinx.proofs.Sums.{and_yes, term-le-sum}
-use Rattle.robinx.proofs.Bits.{bit-lt, in-bit}
+use Rattle.robinx.proofs.Sums.{term-le-sum}
 use Rattle.tables.specs.declared.Tables.{Tables}
 use Rattle.tables.specs.Tables.{cell, x_of, busy}
 use Rattle.timetable.specs.OfSheet.{Shows, InRange}
@@ -36,7 +36,7 @@ module _ {n : ℕ} {t : Tables} {homes aways sheet : List ℕ} (range : InRange 
         omega (arith, term-le-sum (λ h. only (is_at homes aways sheet i j k h) 1) g (length homes) low)
 
     pub game-meets : bit (get_or t.meets (cell (get_or homes g 0) (get_or aways g 0)) 0) k ≡ 1
-    game-meets = omega (arith, met, shows.x i j k (range.teams.home-below g low) (range.teams.away-below g low) lk, bit-lt (get_or t.meets (cell i j) 0) k)
+    game-meets = omega (arith, met, shows.x i j k (range.teams.home-below g low) (range.teams.away-below g low) lk)
 
     pub game-home : bit (get_or t.home (get_or homes g 0) 0) k ≡ 1
     game-home =
@@ -45,7 +45,6 @@ module _ {n : ℕ} {t : Tables} {homes aways sheet : List ℕ} (range : InRange 
           game-meets,
           shows.tied.home-row i k (range.teams.home-below g low) lk,
           term-le-sum (λ q. x_of t.meets i q k) j n (range.teams.away-below g low),
-          bit-lt (get_or t.home i 0) k,
         )
 
     pub game-away : bit (get_or t.away (get_or aways g 0) 0) k ≡ 1
@@ -55,7 +54,6 @@ module _ {n : ℕ} {t : Tables} {homes aways sheet : List ℕ} (range : InRange 
           game-meets,
           shows.tied.away-row j k (range.teams.away-below g low) lk,
           term-le-sum (λ p. x_of t.meets p j k) i n (range.teams.home-below g low),
-          bit-lt (get_or t.away j 0) k,
         )
 
   pub game-busy : {s g : ℕ} → Plays homes aways sheet s k g → busy t.home t.away s k ≡ true
@@ -73,8 +71,8 @@ module _ {n : ℕ} {t : Tables} {homes aways sheet : List ℕ} (range : InRange 
   unfolding meetings is_at
   met-game p q lp lq some =
       let s = count-found (is_at homes aways sheet p q k) (length homes) (rw (← shows.x p q k lp lq lk) some) in
-      let at = and_yes (eqb (get_or homes s.0 0) p && eqb (get_or aways s.0 0) q) _ s.2 in
-      let teams = and_yes (eqb (get_or homes s.0 0) p) _ at.0 in
+      let at = and_parts (eqb (get_or homes s.0 0) p && eqb (get_or aways s.0 0) q) _ s.2 in
+      let teams = and_parts (eqb (get_or homes s.0 0) p) _ at.0 in
       let slot = eqb-true (get_or sheet s.0 0) (suc k) at.1 in
       let host = eq-eqb p (get_or homes s.0 0) (sym (eqb-true (get_or homes s.0 0) p teams.0)) in
       let guest = eq-eqb q (get_or aways s.0 0) (sym (eqb-true (get_or aways s.0 0) q teams.1)) in
@@ -84,10 +82,10 @@ module _ {n : ℕ} {t : Tables} {homes aways sheet : List ℕ} (range : InRange 
   busy-game s ls b =
       or_cases (has (get_or t.home s 0) k) (has (get_or t.away s 0) k) b
       (λ e.
-      let other = sum-found (λ q. x_of t.meets s q k) n (omega (arith, in-bit (get_or t.home s 0) k e, shows.tied.home-row s k ls lk)) in
+      let other = sum-found (λ q. x_of t.meets s q k) n (omega (arith, eqb-true (bit (get_or t.home s 0) k) 1 e, shows.tied.home-row s k ls lk)) in
       let m = met-game s other.0 ls other.1 other.2 in
       (m.0, m.1))
       (λ e.
-      let other = sum-found (λ p. x_of t.meets p s k) n (omega (arith, in-bit (get_or t.away s 0) k e, shows.tied.away-row s k ls lk)) in
+      let other = sum-found (λ p. x_of t.meets p s k) n (omega (arith, eqb-true (bit (get_or t.away s 0) k) 1 e, shows.tied.away-row s k ls lk)) in
       let m = met-game other.0 s other.1 ls other.2 in
       (m.0, m.2))

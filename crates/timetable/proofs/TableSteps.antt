@@ -1,7 +1,7 @@
 -- The steps of build, reslot and swap: what the tables and the answer were for one sheet they are for the next. Assumes nothing.
 use mathlib.Core.Path.{◌≡◌, refl, sym, ap, ◌∙◌}
 use mathlib.Core.List.{List}
-use mathlib.Core.Bool.{Bool, true, false, ◌&&◌, not, true≢false}
+use mathlib.Core.Bool.{Bool, true, false, not, true≢false}
 use Prim.Native.Nat.{ℕ, zero, suc, ◌<◌, ◌≤◌}
 use native.Mathlib.Omega.{arith}
 use lib.ListN.{length, get_or, set}
@@ -27,16 +27,12 @@ module _ {n : ℕ} {homes aways sheet : List ℕ} (range : InRange n homes aways
       go zero e = rw (← e, set-get_or) (fits.shows refl)
       go (suc k) e = lift-law range g low (fits.shows refl) k e
 
-  -- a game that has no slot gets that of byte b; `ok` is the answer so far
-  pub fits-tried : (ok r : Bool) (b : ℕ) → b ≤ most_slots → get_or sheet g 0 ≡ 0
-      → Fits n ok t homes aways sheet
+  -- a game that has no slot gets that of byte b
+  pub fits-tried : (r : Bool) (b : ℕ) → b ≤ most_slots → get_or sheet g 0 ≡ 0
+      → Fits n true t homes aways sheet
       → Tried r (get_or homes g 0) (get_or aways g 0) b t t'
-      → Fits n (ok && r) t' homes aways (set sheet g b)
-  fits-tried false r b lb lifted fits tried = record {
-    no-clash = sym (ap not (clash-stays homes aways sheet g b lifted (not-false _ (sym fits.no-clash))));
-    shows = λ e. absurd (true≢false (sym e));
-  }
-  fits-tried true r b lb lifted fits tried = record {
+      → Fits n r t' homes aways (set sheet g b)
+  fits-tried r b lb lifted fits tried = record {
     no-clash = tried.answer ∙ free-is-fit b lb;
     shows = λ e. rw (tried.after, e) (put-shows b lb (sym tried.answer ∙ e));
   }
@@ -65,7 +61,7 @@ module _ {n : ℕ} {homes aways sheet : List ℕ} (range : InRange n homes aways
       → Fits n r t₂ homes aways (set sheet g b)
   fits-reslotted fits lifted tried =
       rw set-set at
-      (fits-tried (in-range-set g 0 (omega arith) range) g low true r b lb
+      (fits-tried (in-range-set g 0 (omega arith) range) g low r b lb
       (get_or-set_same sheet g 0 0 (omega (arith, range.sheet-length)))
       (fits-lifted range g low fits lifted)
       tried)
@@ -81,40 +77,51 @@ swapped sheet g h a b apart =
 
 module _ {n : ℕ} {homes aways sheet : List ℕ} (range : InRange n homes aways sheet) (g h : ℕ) (lg : g < length homes) (lh : h < length homes)
     (apart : g ≡ h → ⊥)
-    {t₀ t₁ t₂ t₃ t₄ : Tables} {r s ok : Bool} where
-  pub fits-swapped : Fits n true t₀ homes aways sheet
-      → t₁ ≡ taken_out_of (get_or homes g 0) (get_or aways g 0) (get_or sheet g 0) t₀
-      → t₂ ≡ taken_out_of (get_or homes h 0) (get_or aways h 0) (get_or sheet h 0) t₁
-      → Tried r (get_or homes g 0) (get_or aways g 0) (get_or sheet h 0) t₂ t₃
+    {t₀ t₁ t₂ t₃ : Tables} {r : Bool}
+    (fits : Fits n true t₀ homes aways sheet)
+    (out-g : t₁ ≡ taken_out_of (get_or homes g 0) (get_or aways g 0) (get_or sheet g 0) t₀)
+    (out-h : t₂ ≡ taken_out_of (get_or homes h 0) (get_or aways h 0) (get_or sheet h 0) t₁)
+    (in-g : Tried r (get_or homes g 0) (get_or aways g 0) (get_or sheet h 0) t₂ t₃) where
+  range-1 : InRange n homes aways (set sheet g 0)
+  range-1 = in-range-set g 0 (omega arith) range
+
+  range-2 : InRange n homes aways (set (set sheet g 0) h 0)
+  range-2 = in-range-set h 0 (omega arith) range-1
+
+  range-3 : InRange n homes aways (set (set (set sheet g 0) h 0) g (get_or sheet h 0))
+  range-3 = in-range-set g (get_or sheet h 0) (range.slot-low h lh) range-2
+
+  still : get_or (set sheet g 0) h 0 ≡ get_or sheet h 0
+  still = get_or-set_other sheet g h 0 0 (λ e. apart (sym e))
+
+  free-g : get_or (set (set sheet g 0) h 0) g 0 ≡ 0
+  free-g = get_or-set_other (set sheet g 0) h g 0 0 apart ∙ get_or-set_same sheet g 0 0 (omega (arith, range.sheet-length))
+
+  free-h : get_or (set (set (set sheet g 0) h 0) g (get_or sheet h 0)) h 0 ≡ 0
+  free-h =
+      get_or-set_other (set (set sheet g 0) h 0) g h (get_or sheet h 0) 0 (λ e. apart (sym e))
+      ∙ get_or-set_same (set sheet g 0) h 0 0 (omega (arith, range-1.sheet-length))
+
+  -- the first game is put
+  first-put : Fits n r t₃ homes aways (set (set (set sheet g 0) h 0) g (get_or sheet h 0))
+  first-put =
+      fits-tried range-2 g lg r (get_or sheet h 0) (range.slot-low h lh) free-g
+      (fits-lifted range-1 h lh (fits-lifted range g lg fits out-g) (rw still out-h))
+      in-g
+
+  -- where it clashes, so does the sheet
+  pub swap-ends : {t : Tables} → r ≡ false → Fits n false t homes aways (set (set sheet g (get_or sheet h 0)) h (get_or sheet g 0))
+  swap-ends e =
+      rw (← swapped sheet g h (get_or sheet g 0) (get_or sheet h 0) apart)
+      (record {
+        no-clash = sym (ap not (clash-stays homes aways _ h (get_or sheet g 0) free-h (not-false _ (sym first-put.no-clash ∙ e))));
+        shows = λ z. absurd (true≢false (sym z));
+      })
+
+  -- .. and else the second game decides
+  pub swap-fits : {s : Bool} {t₄ : Tables} → r ≡ true
       → Tried s (get_or homes h 0) (get_or aways h 0) (get_or sheet g 0) t₃ t₄
-      → ok ≡ r && s
-      → Fits n ok t₄ homes aways (set (set sheet g (get_or sheet h 0)) h (get_or sheet g 0))
-  fits-swapped fits out-g out-h in_g in-h e =
-      rw (e, ← swapped sheet g h (get_or sheet g 0) (get_or sheet h 0) apart)
-      (fits-tried range-3 h lh r s (get_or sheet g 0) (range.slot-low g lg) free-h
-      (fits-tried range-2 g lg true r (get_or sheet h 0) (range.slot-low h lh) free-g
-      (fits-lifted range-1 h lh
-      (fits-lifted range g lg fits out-g)
-      (rw still out-h))
-      in_g)
-      in-h)
-    where
-      range-1 : InRange n homes aways (set sheet g 0)
-      range-1 = in-range-set g 0 (omega arith) range
-
-      range-2 : InRange n homes aways (set (set sheet g 0) h 0)
-      range-2 = in-range-set h 0 (omega arith) range-1
-
-      range-3 : InRange n homes aways (set (set (set sheet g 0) h 0) g (get_or sheet h 0))
-      range-3 = in-range-set g (get_or sheet h 0) (range.slot-low h lh) range-2
-
-      still : get_or (set sheet g 0) h 0 ≡ get_or sheet h 0
-      still = get_or-set_other sheet g h 0 0 (λ e. apart (sym e))
-
-      free-g : get_or (set (set sheet g 0) h 0) g 0 ≡ 0
-      free-g = get_or-set_other (set sheet g 0) h g 0 0 apart ∙ get_or-set_same sheet g 0 0 (omega (arith, range.sheet-length))
-
-      free-h : get_or (set (set (set sheet g 0) h 0) g (get_or sheet h 0)) h 0 ≡ 0
-      free-h =
-          get_or-set_other (set (set sheet g 0) h 0) g h (get_or sheet h 0) 0 (λ e. apart (sym e))
-          ∙ get_or-set_same (set sheet g 0) h 0 0 (omega (arith, range-1.sheet-length))
+      → Fits n s t₄ homes aways (set (set sheet g (get_or sheet h 0)) h (get_or sheet g 0))
+  swap-fits {s} e in-h =
+      rw (← swapped sheet g h (get_or sheet g 0) (get_or sheet h 0) apart)
+      (fits-tried range-3 h lh s (get_or sheet g 0) (range.slot-low g lg) free-h (rw e at first-put) in-h)

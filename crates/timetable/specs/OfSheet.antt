@@ -1,8 +1,11 @@
 -- The tables of a sheet of a season's games, and what building them answers.
-use Rattle.std.specs.Prelude.{◌≡◌, List, Bool, Option, true, ◌||◌, not, ℕ, ◌<◌, ◌≤◌, eqb, ltb, length, get_or, is_some, IfSome}
+use Rattle.std.specs.Prelude.{◌≡◌, List, [], ◌∷◌, Bool, Result, true, ◌||◌, not, ℕ, ◌<◌, ◌≤◌, eqb, ltb, length, get_or, IfOk}
 use Rattle.robinx.specs.Sums.{sum_to, any_to, only}
 use Rattle.robinx.specs.Season.{most_teams, most_slots}
 use Rattle.robinx.specs.Timetable.{meetings, clash}
+use Rattle.robinx.specs.Refusals.{sentence, first_true}
+use Rattle.robinx.specs.RefusalNumbers.{fault_of}
+use Rattle.robinx.specs.declared.Refusal.{Refusal}
 use Rattle.tables.specs.declared.Tables.{Tables}
 use Rattle.tables.specs.Tables.{Tied, x_of}
 
@@ -37,9 +40,9 @@ unplaced sheet G = sum_to (λ g. only (eqb (get_or sheet g 0) 0) 1) G
 abbrev pub above : ℕ → List ℕ → Bool
 above p sheet = any_to (λ g. ltb p (get_or sheet g 0)) (length sheet)
 
--- What building the tables of a sheet answers and leaves. The sheet fits when no byte is above p and no team has two games in a slot; then
--- the tables are its own, and the answer is the number of games that have no slot.
-pub record Builds (p : ℕ) (homes aways sheet : List ℕ) (r : Option ℕ) (t : Tables) : Type 0 where
-  pub answer : is_some r ≡ not (above p sheet || clash homes aways sheet)
-  pub shows : IfSome r (λ u. Shows most_teams t homes aways sheet)
-  pub count : IfSome r (λ u. u ≡ unplaced sheet (length homes))
+-- What building the tables of a sheet answers and leaves: the number of sentence 8, if a byte is above p or a team has two games in a slot;
+-- else 0, the tables of the sheet and the number of its games that have no slot.
+pub record Builds (p : ℕ) (homes aways sheet : List ℕ) (r : Result ℕ Refusal) (t : Tables) : Type 0 where
+  pub number : fault_of r ≡ first_true (sentence 8 (above p sheet || clash homes aways sheet) ∷ [])
+  pub shows : IfOk r (λ u. Shows most_teams t homes aways sheet)
+  pub count : IfOk r (λ u. u ≡ unplaced sheet (length homes))

@@ -3,13 +3,14 @@
 
 #![tactic(auto)]
 
-ghost use Rattle.std.specs.Prelude.{◌≡◌, true, ◌<◌, ◌≤◌, eqb, length, set, get_or};
+ghost use Rattle.std.specs.Prelude.{◌≡◌, true, ◌<◌, ◌≤◌, eqb, length, set, get_or, is_ok};
 ghost use Rattle.robinx.specs.Sums.{only};
 ghost use Rattle.robinx.specs.Season.{most_teams, most_slots};
 ghost use Rattle.tables.specs.Tables.{Empty};
 ghost use Rattle.timetable.specs.OfSheet.{Teams, InRange, Fits, Builds};
 
-use tables::Tables;
+use robinx::Refusal;
+use tables::{Clash, Tables};
 
 // 1 for a byte that is no slot.
 pub fn no_slot(b: u8) -> usize
@@ -18,30 +19,28 @@ pub fn no_slot(b: u8) -> usize
     usize::from(b == 0)
 }
 
-// Puts every placed game into empty tables, and counts the games that have no slot. None: the sheet does not fit, since a byte is above p or a
-// team would be twice in a slot; the tables are no matter then.
+// Puts every placed game into empty tables, and counts the games that have no slot: one pass over the games has to do for both. A sheet does
+// not fit where a byte is above p or a team would be twice in a slot; the tables are no matter then.
 pub fn build(
     homes: &[u8],
     aways: &[u8],
     sheet: &[u8],
     p: usize,
     tables: &mut Tables,
-) -> Option<usize>
+) -> Result<usize, Refusal>
     requires { Teams most_teams homes.now aways.now × (length sheet.now ≡ length homes.now) × (p ≤ most_slots)
         × Empty tables.old }
     ensures { Builds p homes.now aways.now sheet.now result tables.new }
 {
     let mut unplaced = 0;
-    for (g, &b) in sheet.iter().enumerate() {
+    for ((&i, &j), &b) in homes.iter().zip(aways).zip(sheet) {
         if p < usize::from(b) {
-            return None;
+            return Err(Refusal::BadSheet);
         }
-        if !tables.put(homes[g], aways[g], b) {
-            return None;
-        }
+        tables.put(i, j, b).or(Err(Refusal::BadSheet))?;
         unplaced += no_slot(b);
     }
-    Some(unplaced)
+    Ok(unplaced)
 }
 
 // Game g goes from its slot to that of byte b.
@@ -52,10 +51,10 @@ pub fn reslot(
     tables: &mut Tables,
     g: usize,
     b: u8,
-) -> bool
+) -> Result<(), Clash>
     requires { InRange most_teams homes.now aways.now sheet.now × Fits most_teams true tables.old homes.now aways.now sheet.now
         × (g < length homes.now) × (b ≤ most_slots) }
-    ensures { Fits most_teams result tables.new homes.now aways.now (set sheet.now g b) }
+    ensures { Fits most_teams (is_ok result) tables.new homes.now aways.now (set sheet.now g b) }
 {
     tables.take_out(homes[g], aways[g], sheet[g]);
     tables.put(homes[g], aways[g], b)
@@ -69,17 +68,16 @@ pub fn swap(
     tables: &mut Tables,
     g: usize,
     h: usize,
-) -> bool
+) -> Result<(), Clash>
     requires { InRange most_teams homes.now aways.now sheet.now × Fits most_teams true tables.old homes.now aways.now sheet.now
         × (g < length homes.now) × (h < length homes.now) × (g ≡ h → ⊥) }
-    ensures { Fits most_teams result tables.new homes.now aways.now
+    ensures { Fits most_teams (is_ok result) tables.new homes.now aways.now
         (set (set sheet.now g (get_or sheet.now h 0)) h (get_or sheet.now g 0)) }
 {
     let a = sheet[g];
     let b = sheet[h];
     tables.take_out(homes[g], aways[g], a);
     tables.take_out(homes[h], aways[h], b);
-    let first = tables.put(homes[g], aways[g], b);
-    let second = tables.put(homes[h], aways[h], a);
-    first & second
+    tables.put(homes[g], aways[g], b)?;
+    tables.put(homes[h], aways[h], a)
 }

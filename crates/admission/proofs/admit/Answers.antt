@@ -1,5 +1,5 @@
 -- The tests in their order. Assumes nothing.
-use mathlib.Core.Path.{refl, sym, ◌∙◌}
+use mathlib.Core.Path.{sym, ◌∙◌}
 use borrow.Author.Rules.{rules}
 use Rattle.robinx.specs.Calls.{Buffers, buffers}
 use Rattle.admission.proofs.Entry.{season-refused, few-constraints, lengths-refused, buildable, sheet-refused, admitted}
@@ -19,18 +19,20 @@ lengths_bad-requires c = few-constraints _ (lent (goal.at.lengths_bad-requires c
 pub returns-then-lengths_bad : goal.returns-then-lengths_bad
 returns-then-lengths_bad c = lengths-refused _ _ c.in_ok-found.ensures (sym c.lengths_bad.ensures ∙ c.if-lengths_bad.true)
 
-pub invariant_of-season : goal.invariant_of-season
-invariant_of-season c = record {
-  measured = (buildable _ (lent (goal.at.invariant_of-season c).Start) c.in_ok-found.ensures (sym c.lengths_bad.ensures ∙ c.if-lengths_bad.false)).0;
-}
-
 pub lay_tables-requires : goal.lay_tables-requires
 lay_tables-requires c =
-    let may = buildable _ (lent (goal.at.lay_tables-requires c).Start) c.in_ok-found.ensures (sym c.lengths_bad.ensures ∙ c.if-lengths_bad.false) in
-    (may.1, may.2, may.3, c.requires)
+    let x = c.in_ok-found.ensures in
+    let may = buildable _ (lent (goal.at.lay_tables-requires c).Start) x (sym c.lengths_bad.ensures ∙ c.if-lengths_bad.false) in
+    rw x.found.same (may.0, may.1, may.2, c.requires)
 
-pub returns-in-Some : goal.returns-in-Some
-returns-in-Some c = admitted _ _ c.in_ok-found.ensures (sym c.lengths_bad.ensures ∙ c.if-lengths_bad.false) refl c.in-Some.ensures
+pub returns-in_err-unplaced : goal.returns-in_err-unplaced
+returns-in_err-unplaced c =
+    let x = c.in_ok-found.ensures in
+    let fit = sym c.lengths_bad.ensures ∙ c.if-lengths_bad.false in
+    let refused = sheet-refused _ (lent (goal.at.returns-in_err-unplaced c).Start) x fit (rw x.found.same at c.in_err-unplaced.ensures) in
+    search rules
 
-pub returns-in-None : goal.returns-in-None
-returns-in-None c = sheet-refused _ _ c.in_ok-found.ensures (sym c.lengths_bad.ensures ∙ c.if-lengths_bad.false) c.in-None.ensures
+pub returns : goal.returns
+returns c =
+    let x = c.in_ok-found.ensures in
+    admitted _ _ x (sym c.lengths_bad.ensures ∙ c.if-lengths_bad.false) x.found.same (rw x.found.same at c.in_ok-unplaced.ensures)

@@ -11,41 +11,34 @@ use Rattle.season.proofs.examine_constraints.Goals.{After-entries_of-entries}
 passed : (c : After-entries_of-entries)
     → Kept (decode c.args.season.bytes.now) (c.loop-c.c-iterator.at + 1) (c.loop-c.entries + c.entries_of-entries.result)
 passed c =
-    let v = c.args.season in
     let here = rw c.loop-c.invariant.same at c.in-Some.ensures.steps.constraint in
-    kept-more v.bytes.now v.sizes v.measured c.loop-c.invariant.kept here c.if-not-obeys.ensures c.entries_of-entries.ensures
+    kept-more c.args.season c.loop-c.invariant.kept here c.if-not-obeys.ensures c.entries_of-entries.ensures
 
 pub loop-c-init : goal.loop-c-init
 loop-c-init c =
     let e = c.into_iter-c-iterator.ensures.into_iter_gives in
     let new = c.constraints-c-items.ensures in
-    record { same = rw (e, new.0); sizes = rw (e, new.1); kept = rw (e, new.2) (kept-none (decode c.args.season.bytes.now)) }
+    record { same = rw e new.0; kept = rw (e, new.1) (kept-none (decode c.args.season.bytes.now)) }
 
 pub obeys-requires : goal.obeys-requires
 obeys-requires c = omega (arith, in-range c.args.season.sizes c.requires)
 
 pub returns-then-not-obeys : goal.returns-then-not-obeys
 returns-then-not-obeys c =
-    let v = c.args.season in
-    let old = c.loop-c.invariant in
+    let same = c.loop-c.invariant.same in
     let step = c.in-Some.ensures.steps in
-    broken v.bytes.now v.sizes v.measured c.loop-c.c-iterator.at (rw old.sizes at step.below) (rw old.same at step.constraint)
-    c.if-not-obeys.ensures
+    broken c.args.season c.loop-c.c-iterator.at (rw same at step.below) (rw same at step.constraint) c.if-not-obeys.ensures
 
 pub overflow_add-entries : goal.overflow_add-entries
 overflow_add-entries c =
-    let v = c.args.season in
-    let range = in-range v.sizes c.requires in
-    let below = rw c.loop-c.invariant.sizes at c.in-Some.ensures.steps.below in
-    record { fits = omega (arith, few v.bytes.now v.sizes v.measured range (passed c), range.constraints, below) }
+    let range = in-range c.args.season.sizes c.requires in
+    let below = rw c.loop-c.invariant.same at c.in-Some.ensures.steps.below in
+    record { fits = omega (arith, few c.args.season range (passed c), range.constraints, below) }
 
 pub loop-c-preserved : goal.loop-c-preserved
 loop-c-preserved c =
     let step = c.in-Some.ensures.steps in
-    let old = c.loop-c.invariant in
-    record { same = rw step.season old.same; sizes = rw step.sizes old.sizes; kept = rw step.at (passed c) }
+    record { same = rw step.season c.loop-c.invariant.same; kept = rw step.at (passed c) }
 
 pub returns : goal.returns
-returns c =
-    let v = c.args.season in
-    kept-all v.bytes.now v.sizes v.measured (rw c.loop-c.invariant.sizes at c.in-None.ensures.steps) c.loop-c.invariant.kept
+returns c = kept-all c.args.season (rw c.loop-c.invariant.same at c.in-None.ensures.steps) c.loop-c.invariant.kept

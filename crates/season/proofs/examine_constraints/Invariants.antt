@@ -6,7 +6,6 @@ use Rattle.season.proofs.examine_constraints.Given as goal
 
 abbrev pub invariant-loop-c : goal.invariant-loop-c
 invariant-loop-c l = record {
-  same : l.c-iterator.season.now ≡ l.season.bytes.now;
-  sizes : l.c-iterator.sizes ≡ l.sizes;
+  same : l.c-iterator.season ≡ l.season;
   kept : Kept (decode l.season.bytes.now) l.c-iterator.at l.entries;
 }
