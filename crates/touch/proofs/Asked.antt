@@ -1,8 +1,8 @@
 -- A move touches a constraint where its teams are such as the row of the kind asks, and one of its slots is.
 use mathlib.Core.Path.{◌≡◌, refl, sym, ap, ap₂, ◌∙◌}
 use mathlib.Core.Bool.{Bool, true, false, ◌&&◌, ◌||◌, not, and-false}
-use Prim.Native.Nat.{ℕ, zero, suc}
-use native.Mathlib.Omega.{arith}
+use Prim.Native.Nat.{ℕ}
+use Rattle.std.proofs.Common.{Option, None, Some}
 use lib.Dec.{eqb}
 use Rattle.robinx.specs.Season.{slots_of}
 use Rattle.robinx.specs.Kinds.{form_at}
@@ -11,8 +11,8 @@ use Rattle.robinx.specs.declared.Constraint.{Constraint}
 use Rattle.robinx.specs.declared.Form.{Form}
 use Rattle.robinx.specs.declared.TouchTeams.{TouchTeams}
 use Rattle.robinx.specs.declared.TouchTeams.TheVariants.{Nobody, OneInT1, Across, HomeAndAway, BothInT1}
-use Rattle.touch.specs.Touched.{at_slot, by_row, AsksForT1, PassedOver, no_move, Possible, Named, touched_by_move}
-use Rattle.touch.specs.declared.Move.{Move}
+use Rattle.touch.specs.Touched.{at_slot, byte_of, by_row, by_row_too, AsksForT1, PassedOver, Named, NamedToo, touched_by_move, touched_too}
+use Rattle.touch.specs.declared.moves.Move.{Move}
 
 -- a game in a slot of the sheet is read where both its teams and the slot are asked for
 module _ (c : Constraint) (i j : ℕ) where
@@ -22,10 +22,10 @@ module _ (c : Constraint) (i j : ℕ) where
   abbrev slot : ℕ → Bool
   slot = slot_touches (form_at c.kind).slots (slots_of c)
 
-  hits-is : (b : ℕ) → hits c i j b ≡ teams && at_slot slot b
+  hits-is : (b : Option ℕ) → hits c i j (byte_of b) ≡ teams && at_slot slot b
   unfolding scope_of at_slot
-  hits-is zero = sym (and-false teams)
-  hits-is (suc k) = refl
+  hits-is None = sym (and-false teams)
+  hits-is (Some k) = refl
 
 shared : (t a b : Bool) → (t && a) || (t && b) ≡ t && (a || b)
 shared true a b = refl
@@ -37,14 +37,14 @@ by_row_lem c v e =
     let i = v.home in
     let j = v.away in
     ap (λ (f : Form). by_row f c v) e
-    ∙ ap (λ (t : Bool). not (eqb v.from v.to) && t)
+    ∙ ap (λ (t : Bool). not (eqb (byte_of v.from) (byte_of v.to)) && t)
     (sym (shared (teams c i j) _ _) ∙ sym (ap₂ ◌||◌ (hits-is c i j v.from) (hits-is c i j v.to)))
 
 -- a move whose teams are in a group that is passed over
 pub not-touched : {teams : ℕ} (c : Constraint) (v : Move) {f : Form} → f ≡ form_at c.kind → PassedOver f.teams c.t1 teams → Named teams v
     → touched_by_move v c ≡ false
 unfolding by_row
-not-touched c v {f} e none named = sym (by_row_lem c v e) ∙ rw (none c.t2 v.home v.away named.home named.away) (and-false (not (eqb v.from v.to)))
+not-touched c v {f} e none named = sym (by_row_lem c v e) ∙ rw (none c.t2 v.home v.away named.home named.away) (and-false (not (eqb (byte_of v.from) (byte_of v.to))))
 
 -- a game that a row asks for has a team of T1, in all rows of today
 pub outside : (asked : TouchTeams) → AsksForT1 asked
@@ -55,6 +55,12 @@ outside Across T1 T2 i j h g = rw (h, g)
 outside HomeAndAway T1 T2 i j h g = rw h
 outside BothInT1 T1 T2 i j h g = rw h
 
--- the move that touches nothing
-pub none-possible : {v : Move} → v ≡ no_move → Possible v
-none-possible e = rw e (record { home = omega arith; away = omega arith; from = omega arith; to = omega arith })
+-- .. and the second one, if there is one
+pub by_row_too_lem : (c : Constraint) (w : Option Move) {f : Form} → f ≡ form_at c.kind → by_row_too f c w ≡ touched_too w c
+by_row_too_lem c None e = refl
+by_row_too_lem c (Some v) e = by_row_lem c v e
+
+pub not-touched-too : (named-teams : ℕ) (c : Constraint) (w : Option Move) {f : Form} → f ≡ form_at c.kind → PassedOver f.teams c.t1 named-teams → NamedToo named-teams w
+    → touched_too w c ≡ false
+not-touched-too _ c None e none named = refl
+not-touched-too _ c (Some v) e none named = not-touched c v e none named

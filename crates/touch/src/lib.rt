@@ -4,51 +4,25 @@
 #![tactic(auto)]
 
 ghost use Rattle.std.specs.Prelude.{◌≡◌, true, ◌||◌, ◌<◌, ◌≤◌};
+ghost use Rattle.std.specs.Option.{ForSome};
 ghost use Rattle.robinx.specs.Season.{most_teams, most_slots};
 ghost use Rattle.robinx.specs.Touch.{teams_touch, slot_touches};
-ghost use Rattle.touch.specs.Touched.{at_slot, no_move, Possible, Named, AsksForT1, PassedOver, by_row};
+ghost use Rattle.touch.specs.Touched.{at_slot, AsksForT1, PassedOver, by_row, by_row_too};
+
+pub mod moves;
 
 use groups::is_in;
+use moves::Move;
 use robinx::{Constraint, Form, Slots, TouchSlots, TouchTeams};
 
-// Game (home, away) goes from one slot of the sheet to another; 0 is none.
-#[derive(Clone, Copy, Debug, Default, PartialEq, Eq)]
-pub struct Move {
-    pub home: u8,
-    pub away: u8,
-    pub from: u8,
-    pub to: u8,
-}
-
-// A move that touches nothing.
-pub fn no_move() -> Move
-    ensures { result ≡ no_move }
-{
-    Move::default()
-}
-
-// The group of a move's teams.
-fn both_teams(v: Move) -> u32
-    requires { Possible v }
-    ensures { Named result v }
-{
-    groups::one(usize::from(v.home)) | groups::one(usize::from(v.away))
-}
-
-// The group of the teams of two moves.
-pub fn teams_of(first: Move, second: Move) -> u32
-    requires { Possible first × Possible second }
-    ensures { Named result first × Named result second }
-{
-    both_teams(first) | both_teams(second)
-}
-
-// A game of i at home against j is such as the row asks. Both teams are looked up, without a branch between them.
+// A move's game is such as the row asks. Both teams are looked up, without a branch between them.
 #[tactic(auto, unfolding(robinx::specs::Touch::teams_touch))]
-fn teams_touch(asked: TouchTeams, t1: u32, t2: u32, i: usize, j: usize) -> bool
-    requires { (i < most_teams) × (j < most_teams) }
-    ensures { result ≡ teams_touch asked t1 t2 i j }
+fn teams_touch(asked: TouchTeams, c: Constraint, v: Move) -> bool
+    ensures { result ≡ teams_touch asked c.t1 c.t2 v.home v.away }
 {
+    let Constraint { t1, t2, .. } = c;
+    let i = usize::from(v.home);
+    let j = usize::from(v.away);
     match asked {
         TouchTeams::Nobody => false,
         TouchTeams::OneInT1 => is_in(t1, i) | is_in(t1, j),
@@ -78,13 +52,13 @@ pub fn passed_over(f: Form, t1: u32, teams: u32) -> bool
     t1 & teams == 0 && asks_for_t1(f.teams)
 }
 
-// Slot b of the sheet is such as the row asks.
+// The slot of a game is such as the row asks; that of an unplaced one is not.
 #[tactic(auto, unfolding(robinx::specs::Touch::slot_touches, crate::specs::Touched::at_slot))]
-fn slot_touches(asked: TouchSlots, s: Slots, b: u8) -> bool
-    requires { b ≤ most_slots }
-    ensures { result ≡ at_slot (slot_touches asked s) b }
+fn slot_touches(asked: TouchSlots, s: Slots, slot: Option<u8>) -> bool
+    requires { ForSome slot (λ k. k < most_slots) }
+    ensures { result ≡ at_slot (slot_touches asked s) slot }
 {
-    let Some(k) = b.checked_sub(1) else {
+    let Some(k) = slot else {
         return false;
     };
     match asked {
@@ -97,24 +71,16 @@ fn slot_touches(asked: TouchSlots, s: Slots, b: u8) -> bool
 // A move touches a constraint of a kind with this row.
 #[tactic(auto, unfolding(crate::specs::Touched::by_row))]
 fn touches(f: Form, c: Constraint, v: Move) -> bool
-    requires { Possible v }
     ensures { result ≡ by_row f c v }
 {
     v.from != v.to
-        && teams_touch(
-            f.teams,
-            c.t1,
-            c.t2,
-            usize::from(v.home),
-            usize::from(v.away),
-        )
+        && teams_touch(f.teams, c, v)
         && (slot_touches(f.slots, c.s, v.from) || slot_touches(f.slots, c.s, v.to))
 }
 
 // An exchange touches what either of its moves touches.
-pub fn either_touches(f: Form, c: Constraint, first: Move, second: Move) -> bool
-    requires { Possible first × Possible second }
-    ensures { result ≡ by_row f c first || by_row f c second }
+pub fn either_touches(f: Form, c: Constraint, first: Move, second: Option<Move>) -> bool
+    ensures { result ≡ by_row f c first || by_row_too f c second }
 {
-    touches(f, c, first) || touches(f, c, second)
+    touches(f, c, first) || second.is_some_and(|v| touches(f, c, v))
 }

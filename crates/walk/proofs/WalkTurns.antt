@@ -8,7 +8,7 @@ use lib.ListN.{length, get_or, set, take, drop}
 use borrow.Author.Tests.{not-false}
 use Rattle.robinx.specs.Sums.{sum_to}
 use Rattle.robinx.specs.Season.{Instance, decode, most_slots}
-use Rattle.robinx.specs.Deviations.{deviations}
+use Rattle.robinx.specs.Deviations.{deviations, entries}
 use Rattle.robinx.specs.Penalty.{sum, penalty}
 use Rattle.robinx.specs.Rules.{obeys}
 use Rattle.robinx.specs.Books.{deviations_at, entries_at}
@@ -16,7 +16,6 @@ use Rattle.robinx.specs.Refusals.{sentence5}
 use Rattle.robinx.specs.declared.Constraint.{Constraint}
 use Rattle.robinx.specs.declared.Season.{Season}
 use Rattle.robinx.proofs.Sums.{sum-add, any_none}
-use Rattle.robinx.proofs.Limits.{obeyed}
 use Rattle.robinx.proofs.Bounds.{sum-small}
 use Rattle.rules.specs.CountedBits.{ones_in}
 use Rattle.robinx.specs.Kinds.{form_at}
@@ -25,7 +24,8 @@ use Rattle.reader.proofs.Read.{SizesInRange, in-range, teams-read, slots_read, c
 use Rattle.rules.proofs.Members.{entries-counted}
 use Rattle.tables.specs.declared.Tables.{Tables}
 use Rattle.tables.specs.Tables.{x_of}
-use Rattle.opponents.specs.Fillable.{Fillable}
+use Rattle.opponents.specs.Checkable.{Checkable}
+use Rattle.opponents.proofs.Checkable.{limits}
 use Rattle.totals.specs.RunningTotals.{Adds}
 use Rattle.walk.specs.Walk.{Given, is_touched}
 use Rattle.walk.specs.declared.Touch.{Touch}
@@ -38,11 +38,11 @@ abbrev pub Walk : List ℕ → Touch → List ℕ → List ℕ → List ℕ → 
 Walk s touch meets ledger₀ tally₀ k a ledger tally sums =
     Walked (decode s) (λ c. is_touched touch ((decode s).constraint c)) (x_of meets) ledger₀ tally₀ k a ledger tally sums.gained sums.lost
 
--- a filled stretch leaves room for its penalty
-pub small : {n P : ℕ} {c : Constraint} {t : Tables} {out : List ℕ} → Fillable n P c t out
+-- the deviations of a check leave room for its penalty
+pub small : {n P : ℕ} {c : Constraint} {t : Tables} → Checkable n P c t
     → sum (deviations n P c (x_of t.meets)) < 2 ^ 28
 small {n} {P} {c} {t} r =
-    let o = obeyed n P c r.rules in
+    let o = limits r in
     let x = x_of t.meets in
     let once : (i k : ℕ) → i < n → k < P → sum_to (λ j. x i j k + x j i k) n ≤ 1 =
     λ i k hi hk.
@@ -65,12 +65,13 @@ module _ {s : List ℕ} {z : Season} (v : Measured s z) where
         not-false _ (any_none (λ c. not (obeys (decode s).n (decode s).P ((decode s).constraint c))) (decode s).C g.rules k (omega (arith, all)))
 
 -- WalkTurn number k, in the words of the code: c has been read, it has e deviations, and its stretch begins at a. The stretch lies in the
--- ledger and can be filled; the turn ends with it filled, or with nothing written.
+-- ledger, has room for them, and they can be worked out; the turn ends with it filled, or with nothing written.
 pub record WalkTurn (s : List ℕ) (z : Season) (touch : Touch) (t : Tables) (ledger₀ tally₀ : List ℕ)
     (k a : ℕ) (ledger tally : List ℕ) (sums : Moved) (c : Constraint) (e : ℕ) : Type 0 where
   pub fits : a + e ≤ length ledger
   pub counted : k < length tally
-  pub ready : Fillable z.teams z.slots c t (take (a + e - a) (drop a ledger))
+  pub ready : Checkable z.teams z.slots c t
+  pub room : length (take (a + e - a) (drop a ledger)) ≡ entries z.teams z.slots c
   pub reworked : {ledger' ys tally' : List ℕ} {sums' : Moved} → is_touched touch c ≡ true
       → ys ≡ deviations z.teams z.slots c (x_of t.meets)
       → ledger' ≡ take a ledger ++ (ys ++ drop (a + e - a) (drop a ledger))
@@ -113,8 +114,8 @@ module _ {s : List ℕ} {z : Season} {t : Tables} {ledger₀ tally₀ : List ℕ
           slots = rw (← slots_read s v.sizes) (ranges v g).slots;
           rules = keeps v g k l;
           tied = g.tied;
-          places = part_length ledger a (a + e) (entries_at m k) end inside;
         });
+    room = rw (teams-read s v.sizes, slots_read s v.sizes, hc) (part_length ledger a (a + e) (entries_at m k) end inside);
     reworked = λ h hy hl ht hg hs.
         rw ht
         (walked-reworked w g.ledger-length g.tally-length more end (rw (← hc) h) (hy ∙ figures) (rw (figures, hc)) hl

@@ -1,17 +1,21 @@
 -- What a walk over a season's constraints is given, and what it leaves.
-use Rattle.std.specs.Prelude.{◌≡◌, List, ◌++◌, Bool, true, false, ◌||◌, ℕ, ◌+◌, length, set, drop}
+use Rattle.std.specs.Prelude.{◌≡◌, List, ◌++◌, Bool, true, false, ◌||◌, ℕ, ◌+◌, length, set, drop, Option}
 use Rattle.robinx.specs.Sums.{cat_to, list_to}
 use Rattle.robinx.specs.Season.{Instance, decode}
 use Rattle.robinx.specs.Timetable.{X}
+use Rattle.robinx.specs.Deviations.{deviations}
+use Rattle.robinx.specs.Penalty.{penalty}
 use Rattle.robinx.specs.Books.{all_entries}
 use Rattle.robinx.specs.Calls.{reworked_stretch, reworked_penalty, gained, lost}
 use Rattle.robinx.specs.Refusals.{sentence2, sentence5}
 use Rattle.robinx.specs.declared.Constraint.{Constraint}
 use Rattle.tables.specs.declared.Tables.{Tables}
 use Rattle.tables.specs.Tables.{Tied}
-use Rattle.touch.specs.Touched.{Possible, Named, touched_by_move}
+use Rattle.opponents.specs.declared.check.Check.{Check}
+use Rattle.opponents.specs.Figures.{of_check}
+use Rattle.touch.specs.Touched.{Named, NamedToo, touched_by_move, touched_too}
 use Rattle.totals.specs.RunningTotals.{TotalsOf}
-use Rattle.touch.specs.declared.Move.{Move}
+use Rattle.touch.specs.declared.moves.Move.{Move}
 use Rattle.walk.specs.declared.Touch.{Touch}
 use Rattle.walk.specs.declared.Touch.TheVariants.{Everything, Moves}
 use Rattle.walk.specs.declared.Moved.{Moved}
@@ -24,25 +28,27 @@ pub record Given (s : List ℕ) (t : Tables) (ledger tally : List ℕ) : Type 0 
   pub ledger-length : length ledger ≡ all_entries (decode s)
   pub tally-length : length tally ≡ (decode s).C + 2
 
--- the moves are possible, and `teams` has the teams of both
-pub record SoundMoves (teams : ℕ) (v w : Move) : Type 0 where
-  pub first : Possible v
-  pub second : Possible w
+-- what a check's constraint pays
+abbrev pub check_penalty : Check → ℕ
+check_penalty k = penalty k.constraint (of_check deviations k)
+
+-- `teams` has the teams of both moves
+pub record SoundMoves (teams : ℕ) (v : Move) (w : Option Move) : Type 0 where
   pub first-teams : Named teams v
-  pub second-teams : Named teams w
+  pub second-teams : NamedToo teams w
 
 abbrev pub SoundTouch : Touch → Type 0
 SoundTouch Everything = Unit {0}
 SoundTouch (Moves teams first second) = SoundMoves teams first second
 
--- the change is that of these two moves
-abbrev pub MovesOf : Touch → Move → Move → Type 0
+-- the change is that of these moves
+abbrev pub MovesOf : Touch → Move → Option Move → Type 0
 MovesOf τ v w = (teams : ℕ) × (τ ≡ Moves teams v w)
 
 -- which constraints are worked out
 abbrev pub is_touched : Touch → Constraint → Bool
 is_touched Everything c = true
-is_touched (Moves teams first second) c = touched_by_move first c || touched_by_move second c
+is_touched (Moves teams first second) c = touched_by_move first c || touched_too second c
 
 -- The touched constraints' figures are those of x, the others' are as they were; the two totals in the tally are not looked at.
 pub record Reworked (m : Instance) (t : ℕ → Bool) (x : X) (ledger tally ledger' tally' : List ℕ) (r : Moved) : Type 0 where

@@ -5,30 +5,31 @@
 ghost use Rattle.std.specs.Prelude.{◌≡◌, ◌||◌, ◌+◌, ◌<◌, length, get_or, set};
 ghost use Rattle.robinx.specs.Season.{decode};
 ghost use Rattle.robinx.specs.Deviations.{deviations};
-ghost use Rattle.robinx.specs.Penalty.{penalty};
 ghost use Rattle.tables.specs.Tables.{x_of};
-ghost use Rattle.opponents.specs.Fillable.{Fillable};
+ghost use Rattle.opponents.specs.Figures.{of_check, HasRoom};
 ghost use Rattle.robinx.specs.declared.Constraint.{Constraint};
-ghost use Rattle.touch.specs.Touched.{Possible, touched_by_move};
+ghost use Rattle.touch.specs.Touched.{touched_by_move, touched_too};
 ghost use Rattle.totals.specs.RunningTotals.{Adds};
-ghost use Rattle.walk.specs.Walk.{Given, SoundTouch, MovesOf, is_touched, Reworked};
+ghost use Rattle.walk.specs.Walk.{Given, check_penalty, SoundTouch, MovesOf, is_touched, Reworked};
 
 use figures::fill;
 use kinds::form_of;
+use opponents::check::Check;
 use reader::view::SeasonView;
-use robinx::{Constraint, Kind, Season};
+use robinx::{Constraint, Kind};
 use tables::Tables;
 use totals::{Totals, added};
-use touch::{Move, either_touches, passed_over, teams_of};
+use touch::moves::Move;
+use touch::{either_touches, passed_over};
 
-// What a call changes: everything, or what two moves touch, whose teams are `teams`.
+// What a call changes: everything, or what one or two moves touch, whose teams are `teams`.
 #[derive(Clone, Copy)]
 pub enum Touch {
     Everything,
     Moves {
         teams: u32,
         first: Move,
-        second: Move,
+        second: Option<Move>,
     },
 }
 
@@ -39,15 +40,14 @@ pub struct Moved {
     pub lost: Totals,
 }
 
-// What two moves touch.
-pub fn moves(first: Move, second: Move) -> Touch
-    requires { Possible first × Possible second }
+// What one or two moves touch.
+pub fn moves(first: Move, second: Option<Move>) -> Touch
     ensures moves { MovesOf result first second }
     ensures sound { SoundTouch result }
-    ensures touched { (c : Constraint) → is_touched result c ≡ touched_by_move first c || touched_by_move second c }
+    ensures touched { (c : Constraint) → is_touched result c ≡ touched_by_move first c || touched_too second c }
 {
     Touch::Moves {
-        teams: teams_of(first, second),
+        teams: first.teams_with(second),
         first,
         second,
     }
@@ -65,20 +65,19 @@ fn is_touched(c: Constraint, touch: Touch) -> bool
             first,
             second,
         } => {
-            let form = form_of(Kind::of(c.kind));
+            let form = form_of(Kind::from(c.kind));
             !passed_over(form, c.t1, teams) && either_touches(form, c, first, second)
         }
     }
 }
 
-// Works out a constraint's deviations into the stretch, and from them its penalty. Nothing else is written.
-pub fn price(c: Constraint, z: Season, tables: &Tables, stretch: &mut [u32]) -> u64
-    requires { Fillable z.teams z.slots c tables.now stretch.old }
-    ensures { (stretch.new ≡ deviations z.teams z.slots c (x_of tables.now.meets))
-        × (result ≡ penalty c (deviations z.teams z.slots c (x_of tables.now.meets))) }
+// Works out a check's deviations into the stretch, and from them its constraint's penalty. Nothing else is written.
+pub fn price(check: &Check, stretch: &mut [u32]) -> u64
+    requires { HasRoom check.now stretch.old }
+    ensures { (stretch.new ≡ of_check deviations check.now) × (result ≡ check_penalty check.now) }
 {
-    fill(c, z, tables, stretch);
-    penalties::penalty(c, stretch)
+    fill(check, stretch);
+    penalties::penalty(check.constraint, stretch)
 }
 
 // Stores the penalty of constraint number k, and adds it and the one that it replaces to the sums; `hard` is the constraint's byte.
@@ -97,26 +96,19 @@ fn enter(sums: Moved, hard: u8, k: usize, new: u64, tally: &mut [u64]) -> Moved
 }
 
 // One touched constraint, number k.
-fn renew(
-    sums: Moved,
-    c: Constraint,
-    z: Season,
-    k: usize,
-    tables: &Tables,
-    stretch: &mut [u32],
-    tally: &mut [u64],
-) -> Moved
-    requires { Fillable z.teams z.slots c tables.now stretch.old × (k < length tally.old) }
-    ensures { (stretch.new ≡ deviations z.teams z.slots c (x_of tables.now.meets))
-        × (tally.new ≡ set tally.old k (penalty c (deviations z.teams z.slots c (x_of tables.now.meets))))
-        × Adds sums.gained c.hard (penalty c (deviations z.teams z.slots c (x_of tables.now.meets))) result.gained
-        × Adds sums.lost c.hard (get_or tally.old k 0) result.lost }
+fn renew(sums: Moved, check: &Check, k: usize, stretch: &mut [u32], tally: &mut [u64]) -> Moved
+    requires { HasRoom check.now stretch.old × (k < length tally.old) }
+    ensures { (stretch.new ≡ of_check deviations check.now)
+        × (tally.new ≡ set tally.old k (check_penalty check.now))
+        × Adds sums.gained check.now.constraint.hard (check_penalty check.now) result.gained
+        × Adds sums.lost check.now.constraint.hard (get_or tally.old k 0) result.lost }
 {
-    let new = price(c, z, tables, stretch);
-    enter(sums, c.hard, k, new, tally)
+    let new = price(check, stretch);
+    enter(sums, check.constraint.hard, k, new, tally)
 }
 
-// Works out the constraints that are touched.
+// Works out the constraints that are touched. Their stretches have different lengths, so `at`, where one begins, runs on: of a ledger whose parts a
+// loop splits off by `split_at_mut`, a proof knows nothing afterwards.
 pub fn walk(
     season: SeasonView,
     touch: Touch,
@@ -130,13 +122,17 @@ pub fn walk(
 {
     let mut sums = Moved::default();
     let mut at = 0;
-    let z = season.sizes;
-    for k in 0..z.constraints {
-        let c = season.constraint(k);
-        let end = at + kinds::entries_of(c);
-        let touched = is_touched(c, touch);
+    let sizes = season.sizes;
+    for (k, constraint) in season.constraints().enumerate() {
+        let end = at + kinds::entries_of(constraint);
+        let touched = is_touched(constraint, touch);
         if touched {
-            sums = renew(sums, c, z, k, tables, &mut ledger[at..end], tally);
+            let check = Check {
+                constraint,
+                sizes,
+                tables,
+            };
+            sums = renew(sums, &check, k, &mut ledger[at..end], tally);
         }
         at = end;
     }

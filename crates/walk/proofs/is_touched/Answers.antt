@@ -2,18 +2,18 @@
 use mathlib.Core.Path.{◌≡◌, ap, ◌∙◌}
 use borrow.Author.Rules.{rules}
 use Rattle.robinx.specs.Kinds.{form_of, form_at}
-use Rattle.touch.proofs.Asked.{by_row_lem, not-touched}
+use Rattle.touch.proofs.Asked.{by_row_lem, by_row_too_lem, not-touched, not-touched-too}
 use Rattle.walk.proofs.is_touched.Goals as goal
 use Rattle.walk.proofs.is_touched.Goals.{After-passed_over}
 
 row : (c : After-passed_over) → c.form_of-form.result ≡ form_at c.args.c.kind
 unfolding form_at
-row c = c.form_of-form.ensures ∙ ap form_of c.of.ensures
+row c = c.form_of-form.ensures ∙ ap form_of c.from.ensures
 
 pub returns-then-not-passed_over : goal.returns-then-not-passed_over
 returns-then-not-passed_over c =
     let r = row (goal.at.returns-then-not-passed_over c).After-passed_over in
-    rw (c.in-Moves.is, ← by_row_lem c.args.c c.in-Moves.first r, ← by_row_lem c.args.c c.in-Moves.second r) c.either_touches.ensures
+    rw (c.in-Moves.is, ← by_row_lem c.args.c c.in-Moves.first r, ← by_row_too_lem c.args.c c.in-Moves.second r) c.either_touches.ensures
 
 pub returns-else-not-passed_over : goal.returns-else-not-passed_over
 returns-else-not-passed_over c =
@@ -23,6 +23,6 @@ returns-else-not-passed_over c =
     rw (
       c.in-Moves.is,
       not-touched c.args.c c.in-Moves.first r none sound.first-teams,
-      not-touched c.args.c c.in-Moves.second r none sound.second-teams,
+      not-touched-too _ c.args.c c.in-Moves.second r none sound.second-teams,
     )
     (search rules)

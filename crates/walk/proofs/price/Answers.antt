@@ -1,9 +1,9 @@
--- A filled stretch is small, so its penalty fits.
+-- The deviations are small, so the penalty fits.
 use Rattle.walk.proofs.WalkTurns.{small}
 use Rattle.walk.proofs.price.Goals as goal
 
 pub penalty-requires : goal.penalty-requires
-penalty-requires c = rw c.fill.ensures (small c.requires)
+penalty-requires c = rw c.fill.ensures (small c.args.check.now.checkable)
 
 pub returns : goal.returns
 returns c = (c.fill.ensures, rw (← c.fill.ensures) c.penalty.ensures)
