@@ -13,10 +13,11 @@ use Rattle.robinx.specs.Timetable.{X}
 use Rattle.robinx.specs.Books.{penalty_at, total}
 use Rattle.robinx.specs.Calls.{stretch_at, gained, reworked_penalty, moved_total}
 use Rattle.totals.specs.declared.Totals.{Totals}
-use Rattle.robinx.specs.declared.Reply.{Reply}
+use Rattle.replies.specs.declared.Verdict.{Verdict}
+use Rattle.replies.specs.Verdict.{verdict_number, verdict_of}
 use Rattle.robinx.proofs.Lengths.{length-list_to, list-beyond}
 use Rattle.walk.specs.Walk.{stored, Reworked}
-use Rattle.books.specs.Answer.{reply_of, Opened, Answered}
+use Rattle.books.specs.Answer.{Opened, Answered}
 use Rattle.walk.specs.declared.Moved.{Moved}
 use Rattle.totals.proofs.RunningTotals.{hard-change, soft-change}
 
@@ -47,27 +48,26 @@ module _ (f : ℕ → ℕ) (n : ℕ) where
 
 module _ {m : Instance} {x : X} {tally : List ℕ} (long : length tally ≡ m.C + 2) {n : ℕ} (at-end : n ≡ m.C) where
   -- all were touched, so what is gained is the totals
-  pub opened : {ledger ledger' tally₁ tally' : List ℕ} {q : Moved} {u : ℕ} {r : Reply}
+  pub opened : {ledger ledger' tally₁ tally' : List ℕ} {q : Moved} {u : ℕ} {v : Verdict}
       → Reworked m (λ c. true) x ledger tally ledger' tally₁ q
       → tally' ≡ stored tally₁ n q.gained.hard q.gained.soft
-      → r ≡ reply_of u q.gained q.gained.hard
-      → Opened m x u ledger' tally' r
+      → verdict_number v ≡ verdict_of u q.gained.hard
+      → Opened m x u ledger' tally' (record { verdict = v; change = q.gained })
   unfolding total gained stretch_at
-  opened {q = q} every e h = record {
-    t = q.gained;
+  opened every e h = record {
     totals = every.got;
     ledger-is = every.ledger-is;
     tally-is = e ∙ rw (at-end, every.tally-is) (totals-stored (penalty_at m x) m.C tally _ _ long);
-    reply-is = h;
+    verdict = h;
   }
 
-  pub answered : {t : ℕ → Bool} {ledger ledger' tally₁ tally' : List ℕ} {q : Moved} {d : Totals} {u : ℕ} {r : Reply}
+  pub answered : {t : ℕ → Bool} {ledger ledger' tally₁ tally' : List ℕ} {q : Moved} {d : Totals} {u : ℕ} {v : Verdict}
       → Reworked m t x ledger tally ledger' tally₁ q
       → d.hard ≡ (q.gained.hard + (2 ^ 64 - q.lost.hard)) % 2 ^ 64
       → d.soft ≡ (q.gained.soft + (2 ^ 64 - q.lost.soft)) % 2 ^ 64
       → tally' ≡ stored tally₁ n (moved_total (get_or tally₁ n 0) d.hard) (moved_total (get_or tally₁ (n + 1) 0) d.soft)
-      → r ≡ reply_of u d (get_or tally' n 0)
-      → Answered m t x u ledger tally ledger' tally' r
+      → verdict_number v ≡ verdict_of u (get_or tally' n 0)
+      → Answered m t x u ledger tally ledger' tally' (record { verdict = v; change = d })
   answered {t} {tally' = tally'} {q = q} {d = d} w h s e a =
       let f = reworked_penalty m t x tally in
       let hard : get_or (list_to f m.C ++ drop m.C tally) m.C 0 ≡ get_or tally m.C 0 = rw add-zero at (total_kept f m.C tally 0) in
@@ -75,10 +75,9 @@ module _ {m : Instance} {x : X} {tally : List ℕ} (long : length tally ≡ m.C 
       ≡ list_to f m.C ++ moved_total (get_or tally m.C 0) d.hard ∷ moved_total (get_or tally (m.C + 1) 0) d.soft ∷ [] =
       e ∙ rw (at-end, w.tally-is, hard, total_kept f m.C tally 1) (totals-stored f m.C tally _ _ long) in
       record {
-        d = d;
         hard = hard-change m t x tally q.gained q.lost w.got w.gone d.hard h;
         soft = soft-change m t x tally q.gained q.lost w.got w.gone d.soft s;
         ledger-is = w.ledger-is;
         tally-is = left;
-        reply-is = a ∙ rw (left, at-end, first-total f m.C);
+        verdict = a ∙ rw (left, at-end, first-total f m.C);
       }

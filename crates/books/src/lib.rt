@@ -1,4 +1,5 @@
-// The ledger and the tally: a walk works out the touched constraints, all of them when the books are opened, and the totals follow.
+// The ledger and the tally: a walk works out the touched constraints, all of them when the books are opened, and the totals follow. The two come one
+// by one, as the console lends them: of a struct of `&mut`s a clause would read books.exit.1.0.now for tally.new, and no fact may stand beside one.
 
 #![tactic(auto)]
 
@@ -10,8 +11,7 @@ ghost use Rattle.walk.specs.Walk.{Given, SoundTouch, is_touched, stored};
 ghost use Rattle.books.specs.Answer.{Opened, Answered};
 
 use reader::view::SeasonView;
-use replies::{Verdict, accepted};
-use robinx::Reply;
+use replies::{Accepted, Verdict};
 use tables::Tables;
 use totals::Totals;
 use walk::{Moved, Touch, walk};
@@ -51,14 +51,17 @@ pub fn open(
     tables: &Tables,
     ledger: &mut [u32],
     tally: &mut [u64],
-) -> Reply
+) -> Accepted
     requires { Given season.bytes.now tables.now ledger.old tally.old }
     ensures { Opened (decode season.entry.bytes.now) (x_of tables.now.meets) unplaced ledger.new tally.new result }
 {
     let moved = walk(season, Touch::Everything, tables, ledger, tally);
     let totals = moved.gained;
     store(totals, season.sizes.constraints, tally);
-    accepted(Verdict::of(unplaced, totals.hard), totals)
+    Accepted {
+        verdict: Verdict::of(unplaced, totals.hard),
+        change: totals,
+    }
 }
 
 // The books after a change that touches some constraints, of which the tables are.
@@ -69,7 +72,7 @@ pub fn rework(
     tables: &Tables,
     ledger: &mut [u32],
     tally: &mut [u64],
-) -> Reply
+) -> Accepted
     requires { Given season.bytes.now tables.now ledger.old tally.old × SoundTouch touch }
     ensures { Answered (decode season.entry.bytes.now) (λ k. is_touched touch ((decode season.entry.bytes.now).constraint k))
         (x_of tables.now.meets) unplaced ledger.old tally.old ledger.new tally.new result }
@@ -77,5 +80,8 @@ pub fn rework(
     let moved = walk(season, touch, tables, ledger, tally);
     let at = season.sizes.constraints;
     let change = settle(moved, at, tally);
-    accepted(Verdict::of(unplaced, tally[at]), change)
+    Accepted {
+        verdict: Verdict::of(unplaced, tally[at]),
+        change,
+    }
 }

@@ -3,19 +3,20 @@ use mathlib.Core.Path.{◌≡◌, sym}
 use mathlib.Core.List.{List}
 use mathlib.Core.Bool.{Bool, true, false, ◌||◌}
 use Prim.Native.Nat.{ℕ, ◌+◌, ◌-◌, ◌<◌, ◌≤◌}
+use Rattle.std.specs.Prelude.{Ok}
 use native.Mathlib.Omega.{arith}
 use lib.Dec.{eqb}
 use lib.ListN.{length, get_or, set, length-set}
 use lib.Seq.{get_or-set_other}
 use borrow.Author.Tests.{lt-leb, le-ltb, ne_eqb}
+use Rattle.std.proofs.lemmas.Bool.{or_parts}
 use Rattle.robinx.specs.Sums.{only}
 use Rattle.robinx.specs.Season.{Instance, decode, most_teams, most_slots, most_games}
 use Rattle.robinx.specs.Timetable.{clash}
 use Rattle.robinx.specs.Refusals.{first_true, sentence9, sentence10, sentence11, sentence12, sentence13}
 use Rattle.robinx.specs.Calls.{Buffers, buffers, Call, moved, touched, outcome}
-use Rattle.robinx.specs.declared.Reply.{Reply}
 use Rattle.robinx.specs.PlainSheet.{plain_fault}
-use Rattle.robinx.proofs.Sums.{or_no, term-le-sum}
+use Rattle.robinx.proofs.Sums.{term-le-sum}
 use Rattle.robinx.proofs.Passed.{Passed}
 use Rattle.robinx.proofs.Accepted.{length_moved, opens-again}
 use Rattle.robinx.proofs.Limits.{Sound, decode-home, decode-away}
@@ -24,12 +25,11 @@ use Rattle.tables.specs.Tables.{x_of}
 use Rattle.timetable.specs.OfSheet.{InRange, Fits, unplaced}
 use Rattle.timetable.proofs.Fewer.{in-range-most}
 use Rattle.timetable.proofs.FirstGames.{unplaced-set, unplaced-low}
-use Rattle.touch.specs.Touched.{Possible}
-use Rattle.touch.specs.declared.Move.{Move}
 use Rattle.walk.specs.Walk.{Given}
+use Rattle.replies.specs.Reply.{reply_of}
+use Rattle.replies.specs.declared.Accepted.{Accepted}
 use Rattle.books.specs.Answer.{Answered}
 use Rattle.admission.specs.Admission.{Ready, after_entry}
-use Rattle.calls.specs.Moves.{move_of}
 use Rattle.calls.proofs.Shown.{is-sound, whole, range, tied, same-deviations}
 use Rattle.calls.proofs.Outcomes.{Clean, ready-passed, reworked-is}
 
@@ -78,16 +78,10 @@ module _ {s : List ℕ} {t : Tables} {b : Buffers} {u : ℕ} (r : Ready s b u t)
   pub slot-possible : {g : ℕ} → g < (decode s).G → get_or b.sheet g 0 ≤ most_slots
   slot-possible {g} l = range-most.slot-low g (omega (arith, as-many-games))
 
-  pub move-possible : {v : Move} (g from to : ℕ) → v ≡ move_of (decode s).home (decode s).away g from to
-      → g < (decode s).G → from ≤ most_slots → to ≤ most_slots → Possible v
-  move-possible g from to e l lf lt =
-      let w = range-most.teams in
-      rw e (record {
-        home = w.home-below g (omega (arith, as-many-games));
-        away = w.away-below g (omega (arith, as-many-games));
-        from = lf;
-        to = lt;
-      })
+  -- .. and its teams are two of the most that there may be
+  pub teams-possible : {g : ℕ} → g < (decode s).G → (get_or (decode s).home g 0 < most_teams) × (get_or (decode s).away g 0 < most_teams)
+  teams-possible {g} l =
+      let w = range-most.teams in (w.home-below g (omega (arith, as-many-games)), w.away-below g (omega (arith, as-many-games)))
 
   -- an accepted call: the tables are those of the sheet after it
   module _ {t' : Tables} (k : Call) (e : plain_fault (decode s) b.sheet k ≡ 0)
@@ -104,10 +98,10 @@ module _ {s : List ℕ} {t : Tables} {b : Buffers} {u : ℕ} (r : Ready s b u t)
       tally-length = (whole s (moved b.sheet k) (length b.ledger) (length b.tally) again).2;
     }
 
-    pub call-is : {touch : ℕ → Bool} {u' : ℕ} {ledger' tally' : List ℕ} {a : Reply}
+    pub call-is : {touch : ℕ → Bool} {u' : ℕ} {ledger' tally' : List ℕ} {a : Accepted}
         → Answered (decode s) touch (x_of t'.meets) u' b.ledger b.tally ledger' tally' a
         → touch ≡ touched (decode s) b.sheet k → u' ≡ unplaced (moved b.sheet k) (decode s).G
-        → outcome a (buffers (moved b.sheet k) ledger' tally') ≡ after_entry (decode s) b k
+        → outcome (reply_of (Ok a)) (buffers (moved b.sheet k) ledger' tally') ≡ after_entry (decode s) b k
     call-is w et eu = rw e (reworked-is b k w et (same-deviations s (moved b.sheet k) (length b.ledger) (length b.tally) again f) eu)
 
 -- Sentence 13 decides, once the others are passed.
@@ -140,7 +134,7 @@ unplaced-after-set sheet g b G l e eu ef et el =
 pub unplaced-after-exchange : (sheet : List ℕ) (g h G : ℕ) {u : ℕ} → g < G → h < G → (g ≡ h → ⊥) → length sheet ≡ G → u ≡ unplaced sheet G
     → eqb (get_or sheet g 0) 0 || eqb (get_or sheet h 0) 0 ≡ false → u ≡ unplaced (set (set sheet g (get_or sheet h 0)) h (get_or sheet g 0)) G
 unplaced-after-exchange sheet g h G lg lh differ e eu placed =
-    let o = or_no (eqb (get_or sheet g 0) 0) (eqb (get_or sheet h 0) 0) placed in
+    let o = or_parts (eqb (get_or sheet g 0) 0) (eqb (get_or sheet h 0) 0) placed in
     let first = rw (o.0, o.1) at (unplaced-set sheet g (get_or sheet h 0) G lg (omega arith)) in
     let second = rw (get_or-set_other sheet g h (get_or sheet h 0) 0 (λ q. differ (sym q)), o.0, o.1)
     at (unplaced-set (set sheet g (get_or sheet h 0)) h (get_or sheet g 0) G lh (rw length-set (omega arith))) in

@@ -2,10 +2,12 @@
 use mathlib.Core.Path.{◌≡◌, ap, ◌∙◌}
 use mathlib.Core.List.{List}
 use mathlib.Core.Bool.{Bool, cond, ◌&&◌, ◌||◌, or-false}
+use Rattle.std.specs.Prelude.{Ok}
 use Prim.Native.Nat.{ℕ, ◌+◌, ◌-◌, ◌%◌, ◌^◌, ◌<◌}
 use native.Mathlib.Omega.{arith}
 use lib.IntN.{pos}
 use lib.ListN.{length, get_or}
+use Rattle.std.proofs.Common.{Option, None, Some}
 use borrow.Author.Tests.{lt-ltb}
 use mir.Syntax.{w64}
 use mir.Val.{to_z}
@@ -17,19 +19,19 @@ use Rattle.robinx.specs.Books.{timetable, deviations_at, penalty_at, is_hard, is
 use Rattle.robinx.specs.Calls.{Buffers, buffers, outcome, opened, Call, moved, touched, stretch_at, gained, lost, reworked_stretch, reworked_penalty, change, reworked}
 use Rattle.robinx.specs.Touch.{touches}
 use Rattle.robinx.specs.declared.Constraint.{Constraint}
-use Rattle.robinx.specs.declared.Reply.{Reply}
 use Rattle.robinx.proofs.Passed.{Passed, passed}
 use Rattle.robinx.proofs.Demand3.{totals-small}
 use Rattle.tables.specs.declared.Tables.{Tables}
 use Rattle.tables.specs.Tables.{x_of}
 use Rattle.timetable.specs.OfSheet.{unplaced}
-use Rattle.touch.specs.Touched.{no_move, touched_by_move}
+use Rattle.touch.specs.Touched.{MoveOf, touched_by_move, touched_too}
 use Rattle.walk.specs.Walk.{Given, is_touched}
+use Rattle.replies.specs.Reply.{reply_of}
+use Rattle.replies.specs.declared.Accepted.{Accepted}
 use Rattle.books.specs.Answer.{Opened, Answered}
-use Rattle.touch.specs.declared.Move.{Move}
+use Rattle.touch.specs.declared.moves.Move.{Move}
 use Rattle.walk.specs.declared.Touch.{Touch}
 use Rattle.admission.specs.Admission.{Ready}
-use Rattle.calls.specs.Moves.{move_of}
 use Rattle.calls.proofs.Shown.{whole, tied, same-deviations, verdict-is}
 
 -- the sentences that a call has passed
@@ -84,9 +86,9 @@ module _ (m : Instance) (x y : X) (same : deviations_at m x ≡ deviations_at m 
       ap (λ (d : ℕ → List ℕ). (sum_to (λ c. only (t c && want (m.constraint c)) (penalty (m.constraint c) (d c))) m.C
       + (2 ^ 64 - lost want m t tally m.C % 2 ^ 64)) % 2 ^ 64) same
 
-pub open_is : {s : List ℕ} {b : Buffers} {u : ℕ} {t : Tables} {ledger' tally' : List ℕ} {a : Reply}
+pub open_is : {s : List ℕ} {b : Buffers} {u : ℕ} {t : Tables} {ledger' tally' : List ℕ} {a : Accepted}
     → Ready s b u t → Opened (decode s) (x_of t.meets) u ledger' tally' a
-    → outcome a (buffers b.sheet ledger' tally') ≡ opened (decode s) b.sheet
+    → outcome (reply_of (Ok a)) (buffers b.sheet ledger' tally') ≡ opened (decode s) b.sheet
 unfolding opened fresh_ledger fresh_tally
 open_is {s} {b} {u = u} r w =
     let m = decode s in
@@ -97,7 +99,7 @@ open_is {s} {b} {u = u} r w =
     let all : (want : Constraint → Bool) → total want m _ % 2 ^ 64 ≡ total want m x =
     λ want. ap (λ (v : ℕ). v % 2 ^ 64) (total-same m _ _ same want) ∙ exact _ (small want) in
     rw (
-      w.reply-is,
+      w.verdict,
       w.ledger-is,
       w.tally-is,
       w.totals.hard ∙ all is_hard,
@@ -110,15 +112,15 @@ open_is {s} {b} {u = u} r w =
     )
 
 -- an accepted call's outcome, by the tables of the sheet after it and a count of its unplaced games
-pub reworked-is : {m : Instance} (b : Buffers) {ledger' tally' : List ℕ} {t : ℕ → Bool} {x : X} {u : ℕ} {a : Reply} (k : Call)
+pub reworked-is : {m : Instance} (b : Buffers) {ledger' tally' : List ℕ} {t : ℕ → Bool} {x : X} {u : ℕ} {a : Accepted} (k : Call)
     → Answered m t x u b.ledger b.tally ledger' tally' a → t ≡ touched m b.sheet k
     → deviations_at m x ≡ deviations_at m (timetable m (moved b.sheet k)) → u ≡ unplaced (moved b.sheet k) m.G
-    → outcome a (buffers (moved b.sheet k) ledger' tally') ≡ reworked m b k
+    → outcome (reply_of (Ok a)) (buffers (moved b.sheet k) ledger' tally') ≡ reworked m b k
 unfolding reworked
 reworked-is {m} b {t = t} {x} {u} k w et same eu =
     let y = timetable m (moved b.sheet k) in
     rw (
-      w.reply-is,
+      w.verdict,
       w.ledger-is,
       w.tally-is,
       w.hard,
@@ -131,26 +133,30 @@ reworked-is {m} b {t = t} {x} {u} k w et same eu =
       et,
     )
 
--- a walk that reworks what two moves touch
-abbrev pub OfMoves : Touch → Move → Move → Type 0
-OfMoves τ v w = (c : Constraint) → is_touched τ c ≡ touched_by_move v c || touched_by_move w c
+-- a walk that reworks what one or two moves touch
+abbrev pub OfMoves : Touch → Move → Option Move → Type 0
+OfMoves τ v w = (c : Constraint) → is_touched τ c ≡ touched_by_move v c || touched_too w c
 
-module _ (m : Instance) (sheet : List ℕ) (τ : Touch) {first second : Move} (w : OfMoves τ first second) where
+-- game g goes from the slot of byte a to that of byte b
+abbrev pub Moves : Instance → ℕ → ℕ → ℕ → Move → Type 0
+Moves m g a b v = MoveOf (get_or m.home g 0) (get_or m.away g 0) a b v
+
+module _ (m : Instance) (sheet : List ℕ) (τ : Touch) {first : Move} where
   -- what a set's move touches
-  pub set-touched : (g b : ℕ) → first ≡ move_of m.home m.away g (get_or sheet g 0) b → second ≡ no_move
+  pub set-touched : OfMoves τ first None → (g b : ℕ) → Moves m g (get_or sheet g 0) b first
       → (λ c. is_touched τ (m.constraint c)) ≡ touched m sheet (Call.set_slot g b)
   unfolding touched touches
-  set-touched g b e d = λ i c. here c i
+  set-touched w g b e = λ i c. here c i
     where
       here : (c : ℕ) → is_touched τ (m.constraint c) ≡ touched m sheet (Call.set_slot g b) c
-      here c = w (m.constraint c) ∙ rw (e, d) (or-false (touches (m.constraint c) (get_or m.home g 0) (get_or m.away g 0) (get_or sheet g 0) b))
+      here c = w (m.constraint c) ∙ rw (e.home, e.away, e.from, e.to) (or-false (touches (m.constraint c) (get_or m.home g 0) (get_or m.away g 0) (get_or sheet g 0) b))
 
   -- the two moves of an exchange
-  pub exchange-touched : (g h : ℕ) → first ≡ move_of m.home m.away g (get_or sheet g 0) (get_or sheet h 0)
-      → second ≡ move_of m.home m.away h (get_or sheet h 0) (get_or sheet g 0)
+  pub exchange-touched : {second : Move} → OfMoves τ first (Some second) → (g h : ℕ)
+      → Moves m g (get_or sheet g 0) (get_or sheet h 0) first → Moves m h (get_or sheet h 0) (get_or sheet g 0) second
       → (λ c. is_touched τ (m.constraint c)) ≡ touched m sheet (Call.exchange g h)
   unfolding touched
-  exchange-touched g h e d = λ i c. here c i
+  exchange-touched w g h e d = λ i c. here c i
     where
       here : (c : ℕ) → is_touched τ (m.constraint c) ≡ touched m sheet (Call.exchange g h) c
-      here c = w (m.constraint c) ∙ rw (e, d)
+      here c = w (m.constraint c) ∙ rw (e.home, e.away, e.from, e.to, d.home, d.away, d.from, d.to)

@@ -1,29 +1,45 @@
-// What stands around the tables in set and exchange: the sentences about their numbers, and the move of a game. The numbers of a call are u64, as C
-// gives them; between them and usize there is no From, so they are cast.
+// The sentences about the numbers of set and exchange, which stand around the tables. The numbers are u64, as C gives them: each is tested and
+// made a place among the games, or a slot, in one step.
 
 #![tactic(auto)]
 
-ghost use Rattle.std.specs.Prelude.{◌≡◌, ◌<◌, ◌≤◌, length};
-ghost use Rattle.robinx.specs.Refusals.{first_true, sentence12};
+ghost use Rattle.std.specs.Prelude.{◌≡◌, ◌∷◌, [], ◌<◌, ◌≤◌, leb, ltb, length, IfOk};
+ghost use Rattle.robinx.specs.Refusals.{sentence, first_true, sentence12};
 ghost use Rattle.robinx.specs.RefusalNumbers.{fault_of};
 ghost use Rattle.calls.specs.CallNumbers.{set_numbers, exchange_numbers};
-ghost use Rattle.calls.specs.Moves.{move_of};
 
 use robinx::{Refusal, Season};
-use touch::Move;
 
-// Sentences 9 and 10 of a set, in their order.
+// Sentence 9, or the game.
 #[tactic(auto, unfolding(robinx::specs::Refusals::first_true))]
-pub fn set_fault(z: Season, game: u64, slot: u64) -> Result<(), Refusal>
-    ensures { fault_of result ≡ first_true (set_numbers z game slot) }
+fn game_of(z: Season, game: u64) -> Result<usize, Refusal>
+    ensures { (fault_of result ≡ first_true (sentence 9 (leb z.games game) ∷ [])) × IfOk result (λ g. g ≡ game) }
 {
-    if z.games as u64 <= game {
-        return Err(Refusal::NoSuchGame);
+    match usize::try_from(game) {
+        Ok(g) if g < z.games => Ok(g),
+        _ => Err(Refusal::NoSuchGame),
     }
-    if (z.slots as u64) < slot {
-        return Err(Refusal::NoSuchSlot);
+}
+
+// Sentence 10, or the slot as the sheet has it: 0 is none.
+#[tactic(auto, unfolding(robinx::specs::Refusals::first_true))]
+fn slot_of(z: Season, slot: u64) -> Result<usize, Refusal>
+    ensures { (fault_of result ≡ first_true (sentence 10 (ltb z.slots slot) ∷ [])) × IfOk result (λ b. b ≡ slot) }
+{
+    match usize::try_from(slot) {
+        Ok(b) if b <= z.slots => Ok(b),
+        _ => Err(Refusal::NoSuchSlot),
     }
-    Ok(())
+}
+
+// Sentences 9 and 10 of a set, in their order, or its numbers.
+#[tactic(auto, unfolding(robinx::specs::Refusals::first_true))]
+pub fn set_numbers(z: Season, game: u64, slot: u64) -> Result<(usize, usize), Refusal>
+    ensures { (fault_of result ≡ first_true (set_numbers z game slot)) × IfOk result (λ n. (n.0 ≡ game) × (n.1 ≡ slot)) }
+{
+    let g = game_of(z, game)?;
+    let b = slot_of(z, slot)?;
+    Ok((g, b))
 }
 
 // One of the two games has no slot.
@@ -35,36 +51,25 @@ fn unplaced_pair(sheet: &[u8], g: usize, h: usize) -> bool
     (sheet[g] == 0) | (sheet[h] == 0)
 }
 
-// Sentences 9, 11 and 12 of an exchange, in their order.
+// Sentences 9, 11 and 12 of an exchange, in their order, or its numbers.
 #[tactic(auto, unfolding(robinx::specs::Refusals::first_true, robinx::specs::Refusals::sentence11))]
-pub fn exchange_fault(z: Season, sheet: &[u8], game: u64, other: u64) -> Result<(), Refusal>
+pub fn exchange_numbers(
+    z: Season,
+    sheet: &[u8],
+    game: u64,
+    other: u64,
+) -> Result<(usize, usize), Refusal>
     requires { z.games ≤ length sheet.now }
-    ensures { fault_of result ≡ first_true (exchange_numbers z sheet.now game other) }
+    ensures { (fault_of result ≡ first_true (exchange_numbers z sheet.now game other))
+        × IfOk result (λ n. (n.0 ≡ game) × (n.1 ≡ other)) }
 {
-    if z.games as u64 <= game {
-        return Err(Refusal::NoSuchGame);
-    }
-    if z.games as u64 <= other {
-        return Err(Refusal::NoSuchGame);
-    }
-    if game == other {
+    let g = game_of(z, game)?;
+    let h = game_of(z, other)?;
+    if g == h {
         return Err(Refusal::SameGame);
     }
-    if unplaced_pair(sheet, game as usize, other as usize) {
+    if unplaced_pair(sheet, g, h) {
         return Err(Refusal::UnplacedGame);
     }
-    Ok(())
-}
-
-// Game g goes from one slot to another.
-pub fn move_of(homes: &[u8], aways: &[u8], g: usize, from: u8, to: u8) -> Move
-    requires { (g < length homes.now) × (g < length aways.now) }
-    ensures { result ≡ move_of homes.now aways.now g from to }
-{
-    Move {
-        home: homes[g],
-        away: aways[g],
-        from,
-        to,
-    }
+    Ok((g, h))
 }

@@ -1,23 +1,28 @@
-// The three calls of the console. Each meets its definition for every input; a declined call writes nothing.
+// The three calls of the console. Each meets its definition for every input; a refused call writes nothing.
 
 #![tactic(auto)]
 
 ghost use Rattle.std.specs.Prelude.{◌≡◌};
 ghost use Rattle.robinx.specs.Calls.{buffers, outcome, open_call, set_call, exchange_call};
+ghost use Rattle.replies.specs.Reply.{reply_of};
 
-use robinx::Reply;
+use replies::Accepted;
+use robinx::Refusal;
 use tables::Tables;
 
 // Checks a proposed sheet and fills ledger and tally.
-pub fn season_open(season: &[u8], sheet: &[u8], ledger: &mut [u32], tally: &mut [u64]) -> Reply
-    ensures { outcome result (buffers sheet.now ledger.new tally.new)
+pub fn season_open(
+    season: &[u8],
+    sheet: &[u8],
+    ledger: &mut [u32],
+    tally: &mut [u64],
+) -> Result<Accepted, Refusal>
+    ensures { outcome (reply_of result) (buffers sheet.now ledger.new tally.new)
         ≡ open_call season.now (buffers sheet.now ledger.old tally.old) }
 {
     let mut tables = Tables::new();
-    match admission::admit(season, sheet, ledger, tally, &mut tables) {
-        Ok(a) => books::open(a.season, a.unplaced, &tables, ledger, tally),
-        Err(refusal) => replies::declined(refusal),
-    }
+    let admitted = admission::admit(season, sheet, ledger, tally, &mut tables)?;
+    Ok(books::open(admitted.season, admitted.unplaced, &tables, ledger, tally))
 }
 
 // Gives a game a slot; slot 0 takes it out.
@@ -28,24 +33,13 @@ pub fn season_set(
     tally: &mut [u64],
     game: u64,
     slot: u64,
-) -> Reply
-    ensures { outcome result (buffers sheet.new ledger.new tally.new)
+) -> Result<Accepted, Refusal>
+    ensures { outcome (reply_of result) (buffers sheet.new ledger.new tally.new)
         ≡ set_call season.now (buffers sheet.old ledger.old tally.old) game slot }
 {
     let mut tables = Tables::new();
-    match admission::admit(season, sheet, ledger, tally, &mut tables) {
-        Ok(a) => sets::set(
-            a.season,
-            sheet,
-            a.unplaced,
-            &mut tables,
-            ledger,
-            tally,
-            game,
-            slot,
-        ),
-        Err(refusal) => replies::declined(refusal),
-    }
+    let admitted = admission::admit(season, sheet, ledger, tally, &mut tables)?;
+    sets::set(admitted, sheet, &mut tables, ledger, tally, game, slot)
 }
 
 // Exchanges the slots of two placed games.
@@ -56,22 +50,11 @@ pub fn season_exchange(
     tally: &mut [u64],
     game: u64,
     other: u64,
-) -> Reply
-    ensures { outcome result (buffers sheet.new ledger.new tally.new)
+) -> Result<Accepted, Refusal>
+    ensures { outcome (reply_of result) (buffers sheet.new ledger.new tally.new)
         ≡ exchange_call season.now (buffers sheet.old ledger.old tally.old) game other }
 {
     let mut tables = Tables::new();
-    match admission::admit(season, sheet, ledger, tally, &mut tables) {
-        Ok(a) => exchanges::exchange(
-            a.season,
-            sheet,
-            a.unplaced,
-            &mut tables,
-            ledger,
-            tally,
-            game,
-            other,
-        ),
-        Err(refusal) => replies::declined(refusal),
-    }
+    let admitted = admission::admit(season, sheet, ledger, tally, &mut tables)?;
+    exchanges::exchange(admitted, sheet, &mut tables, ledger, tally, game, other)
 }

@@ -1,9 +1,10 @@
-// The three calls of crate `checker`, for C: include/season_checker.h declares them.
+// The three calls of crate `checker`, for C: include/season_checker.h declares them. Here alone an answer becomes a `Reply`.
 #![tactic(auto)]
 
 ghost use Rattle.std.specs.Prelude.{◌≡◌};
 ghost use Rattle.robinx.specs.Calls.{buffers, outcome, open_call, set_call, exchange_call};
 
+use replies::reply;
 use robinx::Reply;
 
 // Checks a proposed sheet and fills ledger and tally.
@@ -17,7 +18,7 @@ pub extern "C" fn season_open(
     ensures { outcome result (buffers sheet.now ledger.new tally.new)
         ≡ open_call season.now (buffers sheet.now ledger.old tally.old) }
 {
-    checker::season_open(season, sheet, ledger, tally)
+    reply(checker::season_open(season, sheet, ledger, tally))
 }
 
 // Gives a game a slot; slot 0 takes it out.
@@ -33,7 +34,7 @@ pub extern "C" fn season_set(
     ensures { outcome result (buffers sheet.new ledger.new tally.new)
         ≡ set_call season.now (buffers sheet.old ledger.old tally.old) game slot }
 {
-    checker::season_set(season, sheet, ledger, tally, game, slot)
+    reply(checker::season_set(season, sheet, ledger, tally, game, slot))
 }
 
 // Exchanges the slots of two placed games.
@@ -49,5 +50,5 @@ pub extern "C" fn season_exchange(
     ensures { outcome result (buffers sheet.new ledger.new tally.new)
         ≡ exchange_call season.now (buffers sheet.old ledger.old tally.old) game other }
 {
-    checker::season_exchange(season, sheet, ledger, tally, game, other)
+    reply(checker::season_exchange(season, sheet, ledger, tally, game, other))
 }

@@ -1,13 +1,10 @@
-// The replies: of a refused call, and of an accepted one with its verdict.
+// The answer of an accepted call, with its verdict, and the reply that the C interface makes of any answer.
 
 #![tactic(auto)]
 
 ghost use Rattle.std.specs.Prelude.{◌≡◌};
-ghost use Rattle.std.specs.Int.{w64};
-ghost use Rattle.std.proofs.Common.{to_z};
-ghost use Rattle.robinx.specs.Calls.{declined, accepted};
-ghost use Rattle.robinx.specs.RefusalNumbers.{number_of};
 ghost use Rattle.replies.specs.Verdict.{verdict_number, verdict_of};
+ghost use Rattle.replies.specs.Reply.{reply_of};
 
 use robinx::{Refusal, Reply};
 use totals::Totals;
@@ -31,12 +28,14 @@ impl Verdict {
             _ => Self::Unplaced,
         }
     }
+}
+
+impl From<Verdict> for u8 {
+    ghost from_gives = { λ verdict number. number ≡ verdict_number verdict };
 
     // Its number in a reply.
-    pub fn number(self) -> u8
-        ensures { result ≡ verdict_number self }
-    {
-        match self {
+    fn from(verdict: Verdict) -> Self {
+        match verdict {
             Verdict::Feasible => 0,
             Verdict::Unplaced => 1,
             Verdict::Infeasible => 2,
@@ -44,26 +43,29 @@ impl Verdict {
     }
 }
 
-// The reply of a refused call: the number of the sentence, and no change.
-pub fn declined(refusal: Refusal) -> Reply
-    ensures { result ≡ declined (number_of refusal) }
-{
-    Reply {
-        declined: true,
-        number: refusal.number(),
-        infeasibility: 0,
-        objective: 0,
-    }
+// What an accepted call answers: its verdict, and the changes of infeasibility and objective modulo 2^64. A refused call answers a `Refusal`.
+#[derive(Clone, Copy, Debug, PartialEq, Eq)]
+pub struct Accepted {
+    pub verdict: Verdict,
+    pub change: Totals,
 }
 
-// The reply of an accepted call: its verdict, and the changes of infeasibility and objective as two's complement.
-pub fn accepted(verdict: Verdict, change: Totals) -> Reply
-    ensures { result ≡ accepted (verdict_number verdict) (to_z w64 change.hard) (to_z w64 change.soft) }
+// What the C interface replies: the number of a refusal with no change, or that of the verdict with the changes as two's complement.
+pub fn reply(answer: Result<Accepted, Refusal>) -> Reply
+    ensures { result ≡ reply_of answer }
 {
-    Reply {
-        declined: false,
-        number: verdict.number(),
-        infeasibility: totals::signed(change.hard),
-        objective: totals::signed(change.soft),
+    match answer {
+        Ok(Accepted { verdict, change }) => Reply {
+            declined: false,
+            number: u8::from(verdict),
+            infeasibility: totals::signed(change.hard),
+            objective: totals::signed(change.soft),
+        },
+        Err(refusal) => Reply {
+            declined: true,
+            number: u8::from(refusal),
+            infeasibility: 0,
+            objective: 0,
+        },
     }
 }

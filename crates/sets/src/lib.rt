@@ -1,76 +1,64 @@
-// Set for a call that has passed sentences 1 to 8. The numbers of a call are u64, as C gives them, and
-// there is no From of them to a usize: once they are tested, they are cast. Sheet, ledger and tally come one by one, as the console lends them.
+// Set for a call that has passed sentences 1 to 8. Sheet, ledger and tally come one by one, as the console lends them.
 
 #![tactic(auto)]
 
 ghost use Rattle.std.specs.Prelude.{◌≡◌, ◌<◌, ◌≤◌};
 ghost use Rattle.robinx.specs.Season.{decode};
 ghost use Rattle.robinx.specs.Calls.{set_slot, buffers, outcome};
+ghost use Rattle.replies.specs.Reply.{reply_of};
 ghost use Rattle.admission.specs.Admission.{Ready, after_entry};
 
-use calls::{move_of, set_fault};
-use reader::view::SeasonView;
-use replies::declined;
-use robinx::{Refusal, Reply};
+use admission::Admitted;
+use calls::set_numbers;
+use replies::Accepted;
+use robinx::Refusal;
 use tables::Tables;
 use timetable::no_slot;
-use touch::no_move;
+use touch::moves::Move;
 use walk::moves;
 
 // Game g goes to the slot of byte b, if its teams are free there.
 fn set_to(
-    season: SeasonView,
+    admitted: Admitted,
     sheet: &mut [u8],
-    unplaced: usize,
     tables: &mut Tables,
     ledger: &mut [u32],
     tally: &mut [u64],
     g: usize,
     b: u8,
-) -> Reply
-    requires { Ready season.bytes.now (buffers sheet.old ledger.old tally.old) unplaced tables.old
-        × (g < (decode season.bytes.now).G) × (b ≤ (decode season.bytes.now).P) }
-    ensures { outcome result (buffers sheet.new ledger.new tally.new)
-        ≡ after_entry (decode season.entry.bytes.now) (buffers sheet.old ledger.old tally.old) (set_slot g b) }
+) -> Result<Accepted, Refusal>
+    requires { Ready admitted.season.bytes.now (buffers sheet.old ledger.old tally.old) admitted.unplaced tables.old
+        × (g < (decode admitted.season.bytes.now).G) × (b ≤ (decode admitted.season.bytes.now).P) }
+    ensures { outcome (reply_of result) (buffers sheet.new ledger.new tally.new)
+        ≡ after_entry (decode admitted.entry.season.bytes.now) (buffers sheet.old ledger.old tally.old) (set_slot g b) }
 {
+    let season = admitted.season;
     let homes = season.homes();
     let aways = season.aways();
     let from = sheet[g];
-    if timetable::reslot(homes, aways, sheet, tables, g, b) {
-        let first = move_of(homes, aways, g, from, b);
-        let left = unplaced - no_slot(from) + no_slot(b);
-        sheet[g] = b;
-        return books::rework(season, moves(first, no_move()), left, tables, ledger, tally);
-    }
-    declined(Refusal::TeamBusy)
+    timetable::reslot(homes, aways, sheet, tables, g, b)?;
+    let touch = moves(Move::of(homes[g], aways[g], from, b), None);
+    let left = admitted.unplaced - no_slot(from) + no_slot(b);
+    sheet[g] = b;
+    Ok(books::rework(season, touch, left, tables, ledger, tally))
 }
 
 // Set, once sentences 1 to 8 are passed.
 pub fn set(
-    season: SeasonView,
+    admitted: Admitted,
     sheet: &mut [u8],
-    unplaced: usize,
     tables: &mut Tables,
     ledger: &mut [u32],
     tally: &mut [u64],
     game: u64,
     slot: u64,
-) -> Reply
-    requires { Ready season.bytes.now (buffers sheet.old ledger.old tally.old) unplaced tables.old }
-    ensures { outcome result (buffers sheet.new ledger.new tally.new)
-        ≡ after_entry (decode season.entry.bytes.now) (buffers sheet.old ledger.old tally.old) (set_slot game slot) }
+) -> Result<Accepted, Refusal>
+    requires { Ready admitted.season.bytes.now (buffers sheet.old ledger.old tally.old) admitted.unplaced tables.old }
+    ensures { outcome (reply_of result) (buffers sheet.new ledger.new tally.new)
+        ≡ after_entry (decode admitted.entry.season.bytes.now) (buffers sheet.old ledger.old tally.old) (set_slot game slot) }
 {
-    match set_fault(season.sizes, game, slot) {
-        Ok(()) => set_to(
-            season,
-            sheet,
-            unplaced,
-            tables,
-            ledger,
-            tally,
-            game as usize,
-            slot as u8,
-        ),
-        Err(refusal) => declined(refusal),
-    }
+    let (g, slot) = set_numbers(admitted.season.sizes, game, slot)?;
+    // a season has at most 64 slots
+    let b = u8::try_from(slot).unwrap();
+    set_to(admitted, sheet, tables, ledger, tally, g, b)
 }

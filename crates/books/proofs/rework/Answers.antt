@@ -1,4 +1,4 @@
--- The totals are moved after the walk, which left them as they were, and the reply follows from them.
+-- The totals are moved after the walk, which left them as they were, and the verdict follows from them.
 use native.Mathlib.Omega.{arith}
 use Rattle.walk.proofs.WalkTurns.{all}
 use Rattle.books.proofs.Totalled.{answered}
@@ -14,4 +14,4 @@ pub returns : goal.returns
 returns c =
     let g = c.requires.0 in
     let e = c.settle-change.ensures in
-    answered g.tally-length (all c.args.season.measured) c.walk-moved.ensures e.0 e.1 e.2 (rw (← c.of.ensures) c.accepted.ensures)
+    answered g.tally-length (all c.args.season.measured) c.walk-moved.ensures e.0 e.1 e.2 c.of.ensures
