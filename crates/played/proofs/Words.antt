@@ -1,6 +1,6 @@
 -- Integers modulo 2^64.
 use Rattle.std.proofs.Common.{◌≡◌, ℕ, suc, ◌+◌, ◌-◌, ◌%◌, ◌^◌, ◌<◌, Bool, true, false, cond, ltb, ℤ, pos, negsuc, ◌+ℤ◌}
-use Rattle.std.proofs.Common.{refl, arith, w64, SFits, of_z, ltb-false, ltb-true}
+use Rattle.std.proofs.Common.{refl, arith, w64, to_z, ltb-false, ltb-true}
 use lib.IntN.{sub_ℕ}
 use Rattle.played.specs.Word.{word}
 
@@ -27,8 +27,11 @@ pub word_small : (n : ℕ) → n < 2 ^ 64 → word (pos n) ≡ n
 unfolding word
 word_small n h = omega arith
 
--- the bits of a change are its number modulo 2^64
-pub word_is : (z : ℤ) → SFits w64 z → of_z w64 z ≡ word z
+-- a word read as two's complement and then modulo 2^64 is itself
+pub word_signed : (n : ℕ) → n < 2 ^ 64 → word (to_z w64 n) ≡ n
 unfolding word
-word_is (pos n) f = omega (arith, f.sfits)
-word_is (negsuc n) f = omega (arith, f.sfits)
+word_signed n h = go (ltb n (2 ^ 63)) refl
+  where
+    go : (t : Bool) → ltb n (2 ^ 63) ≡ t → word (to_z w64 n) ≡ n
+    go true e = rw e (omega arith)
+    go false e = let low = ltb-false n (2 ^ 63) e in rw e (omega arith)

@@ -1,46 +1,49 @@
-// What a list of calls has come to: the last reply, and the changes of all replies added up.
+// What a list of calls has come to: the last answer, and the changes of all answers added up.
 
 #![tactic(auto)]
 
 ghost use Rattle.std.specs.Prelude.{◌≡◌};
-ghost use Rattle.played.specs.Word.{word};
-ghost use Rattle.played.specs.ReplyList.{begun, with_reply};
+ghost use Rattle.replies.specs.Reply.{reply_of};
+ghost use Rattle.played.specs.AnswerList.{changes_of, begun, with_answer};
 
-use robinx::Reply;
+use replies::Accepted;
+use robinx::Refusal;
+use totals::Totals;
 
-// The last reply, and the sums of the changes of all replies, modulo 2^64.
+// The last answer, and the sums of the changes of all answers, modulo 2^64.
 #[derive(Clone, Copy)]
 pub struct Played {
-    pub reply: Reply,
-    pub infeasibility: u64,
-    pub objective: u64,
+    pub answer: Result<Accepted, Refusal>,
+    pub sums: Totals,
 }
 
-// A change modulo 2^64.
-pub fn word(change: i64) -> u64
-    ensures { result ≡ word change }
+// The changes in an answer: none where the call was refused.
+#[tactic(auto, using(crate::proofs::Words::word_signed), unfolding(crate::specs::Word::word))]
+pub fn changes_of(answer: Result<Accepted, Refusal>) -> Totals
+    ensures { result ≡ changes_of (reply_of answer) }
 {
-    change.cast_unsigned()
+    match answer {
+        Ok(accepted) => accepted.change,
+        Err(_) => Totals::default(),
+    }
 }
 
 impl Played {
-    pub fn of(opening: Reply) -> Self
+    pub fn of(opening: Result<Accepted, Refusal>) -> Self
         ensures { result ≡ begun opening }
     {
         Self {
-            reply: opening,
-            infeasibility: word(opening.infeasibility),
-            objective: word(opening.objective),
+            answer: opening,
+            sums: changes_of(opening),
         }
     }
 
-    pub fn then(self, reply: Reply) -> Self
-        ensures { result ≡ with_reply self reply }
+    pub fn then(self, answer: Result<Accepted, Refusal>) -> Self
+        ensures { result ≡ with_answer self answer }
     {
         Self {
-            reply,
-            infeasibility: self.infeasibility.wrapping_add(word(reply.infeasibility)),
-            objective: self.objective.wrapping_add(word(reply.objective)),
+            answer,
+            sums: totals::moved(self.sums, changes_of(answer)),
         }
     }
 }

@@ -2,22 +2,25 @@
 
 #![tactic(auto)]
 
-use report::Row;
+use report::{BrokenConstraint, Report};
+use robinx::Season;
 use std::io;
 
-// A row's three numbers on one line.
-fn print_rows(rt: &impl Print, rows: &[Row]) -> io::Result<()> {
-    for [first, second, third] in rows {
-        println!(rt; "{first} {second} {third}")?;
+// The first row, and one for each broken constraint.
+fn print_rows(rt: &impl Print, report: Report) -> io::Result<()> {
+    let verdict = u8::from(report.verdict);
+    println!(rt; "{verdict} {} {}", report.infeasibility, report.objective)?;
+    for broken in report.broken {
+        println!(rt; "{} {} {}", broken.number, broken.kind, broken.penalty)?;
     }
     Ok(())
 }
 
 // Prints the report of an input.
 pub fn print(rt: &impl Print, input: &[u8]) -> io::Result<()> {
-    let mut out = [[0u64; 3]; report::MOST_ROWS];
-    match report::rows(input, &mut out) {
-        Ok(rows) => print_rows(rt, rows),
-        Err(number) => println!(rt; "refused {number}"),
+    let mut out = [BrokenConstraint::default(); Season::CONSTRAINTS];
+    match report::report_on(input, &mut out) {
+        Ok(report) => print_rows(rt, report),
+        Err(refusal) => println!(rt; "refused {}", u8::from(refusal)),
     }
 }

@@ -14,6 +14,7 @@ use Rattle.robinx.specs.declared.Constraint.{Constraint}
 use Rattle.robinx.proofs.Passed.{open-no-fault, opens-fresh, passed}
 use Rattle.robinx.proofs.Kept.{hard-held, soft-held}
 use Rattle.robinx.proofs.Demand3.{totals-small, demand-3}
+use Rattle.replies.specs.Reply.{reply_of}
 use Rattle.played.specs.declared.Played.{Played}
 use Rattle.played.specs.Word.{word}
 use Rattle.replay.specs.Play.{Fresh, Replays, ReplaysFresh}
@@ -45,11 +46,11 @@ pub replays-fresh : (season : List ℕ) (b : Buffers) (calls : List Call) (p : P
 replays-fresh season b calls p left accepted h =
     let d = demand-3 season b accepted calls in
     let plain = plain_after (decode season) b.sheet calls in
-    let f : Fresh season plain (outcome p.reply left) = rw h.lasts d.2 in
+    let f : Fresh season plain (outcome (reply_of p.answer) left) = rw h.lasts d.2 in
     let hard = rw (← h.lasts) at d.3.0 in
     let soft = rw (← h.lasts) at d.3.1 in
     record {
       fresh = f;
-      infeasibility = h.infeasibility ∙ ap word hard ∙ word_small _ (hard-low season plain (outcome p.reply left) f);
-      objective = h.objective ∙ ap word soft ∙ word_small _ (soft-low season plain (outcome p.reply left) f);
+      infeasibility = h.infeasibility ∙ ap word hard ∙ word_small _ (hard-low season plain (outcome (reply_of p.answer) left) f);
+      objective = h.objective ∙ ap word soft ∙ word_small _ (soft-low season plain (outcome (reply_of p.answer) left) f);
     }

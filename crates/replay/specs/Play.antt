@@ -8,6 +8,7 @@ use Rattle.robinx.specs.PlainSheet.{plain_after}
 use Rattle.robinx.specs.declared.Reply.{Reply}
 use Rattle.replay.specs.declared.Call.{Call as ProgramCall}
 use Rattle.replay.specs.declared.Call.TheVariants.{Set, Exchange}
+use Rattle.replies.specs.Reply.{reply_of}
 use Rattle.played.specs.declared.Played.{Played}
 use Rattle.played.specs.Word.{word}
 
@@ -32,16 +33,16 @@ calls_of (kind ∷ first ∷ []) = []
 calls_of (kind ∷ []) = []
 calls_of [] = []
 
--- The reply and the buffers are those of the last call, and each sum is that of the changes of all replies, the opening's first, modulo 2^64.
+-- The answer and the buffers are those of the last call, and each sum is that of the changes of all replies, the opening's first, modulo 2^64.
 -- Nothing is asked of season and buffers.
 pub record Replays (season : List ℕ) (b : Buffers) (calls : List Call) (p : Played) (left : Buffers) : Type 0 where
-  pub lasts : outcome p.reply left ≡ last season (open_call season b) calls
-  pub infeasibility : p.infeasibility ≡ word (added (λ (r : Reply). r.infeasibility) season (open_call season b) calls)
-  pub objective : p.objective ≡ word (added (λ (r : Reply). r.objective) season (open_call season b) calls)
+  pub lasts : outcome (reply_of p.answer) left ≡ last season (open_call season b) calls
+  pub infeasibility : p.sums.hard ≡ word (added (λ (r : Reply). r.infeasibility) season (open_call season b) calls)
+  pub objective : p.sums.soft ≡ word (added (λ (r : Reply). r.objective) season (open_call season b) calls)
 
 -- After an accepted opening: the sheet is the plain sheet, ledger and tally are those of a fresh opening of it, and the sums are the two
 -- totals that the tally holds.
 pub record ReplaysFresh (season : List ℕ) (b : Buffers) (calls : List Call) (p : Played) (left : Buffers) : Type 0 where
-  pub fresh : Fresh season (plain_after (decode season) b.sheet calls) (outcome p.reply left)
-  pub infeasibility : p.infeasibility ≡ get_or left.tally (decode season).C 0
-  pub objective : p.objective ≡ get_or left.tally ((decode season).C + 1) 0
+  pub fresh : Fresh season (plain_after (decode season) b.sheet calls) (outcome (reply_of p.answer) left)
+  pub infeasibility : p.sums.hard ≡ get_or left.tally (decode season).C 0
+  pub objective : p.sums.soft ≡ get_or left.tally ((decode season).C + 1) 0

@@ -1,13 +1,15 @@
-// A season opened and then a list of calls made, through the exported calls alone: the last reply, and the changes added up.
+// A season opened and then a list of calls made, through the exported calls alone: the last answer, and the changes added up.
 
 #![tactic(auto)]
 
 ghost use Rattle.std.specs.Prelude.{◌≡◌};
 ghost use Rattle.robinx.specs.Calls.{buffers, outcome, call_on};
+ghost use Rattle.replies.specs.Reply.{reply_of};
 ghost use Rattle.replay.specs.Play.{meant_by, call_in, calls_of, Replays};
 
 use played::Played;
-use robinx::Reply;
+use replies::Accepted;
+use robinx::Refusal;
 
 // A call: a game is put into a slot, or two games change places.
 #[derive(Clone, Copy, Debug, PartialEq, Eq)]
@@ -36,8 +38,14 @@ impl From<[u64; 3]> for Call {
 }
 
 impl Call {
-    fn make(self, season: &[u8], sheet: &mut [u8], ledger: &mut [u32], tally: &mut [u64]) -> Reply
-        ensures { outcome result (buffers sheet.new ledger.new tally.new)
+    fn make(
+        self,
+        season: &[u8],
+        sheet: &mut [u8],
+        ledger: &mut [u32],
+        tally: &mut [u64],
+    ) -> Result<Accepted, Refusal>
+        ensures { outcome (reply_of result) (buffers sheet.new ledger.new tally.new)
             ≡ call_on season.now (buffers sheet.old ledger.old tally.old) (meant_by self) }
     {
         match self {
@@ -51,7 +59,7 @@ impl Call {
     }
 }
 
-// Opens, and makes each call of the list, three words a call, whatever the replies are. Season, sheet, ledger and tally stay parameters, as
+// Opens, and makes each call of the list, three words a call, whatever the answers are. Season, sheet, ledger and tally stay parameters, as
 // they are of the exported calls: of a struct of `&mut`s each clause would have to say `entry` or `exit`, and its fields.
 pub fn play(
     season: &[u8],
@@ -66,8 +74,8 @@ pub fn play(
     let mut played = Played::of(checker::season_open(season, &*sheet, ledger, tally));
     let (calls, _) = calls.as_chunks::<3>();
     for &words in calls {
-        let reply = Call::from(words).make(season, sheet, ledger, tally);
-        played = played.then(reply);
+        let answer = Call::from(words).make(season, sheet, ledger, tally);
+        played = played.then(answer);
     }
     played
 }

@@ -1,6 +1,6 @@
 // Replays season A: reads its 114 bytes, its sheet (both as in examples/season-a.bin) and then calls of three words each, eight bytes a
 // word, lowest first (examples/season-a.moves; 0 for set, 1 for exchange). For the opening alone, for the first call, the first two and
-// so on it opens anew, makes these calls, and prints the last reply, each sum with the last change, the sheet and the tally.
+// so on it opens anew, makes these calls, and prints the last answer, each sum with the last change, the sheet and the tally.
 
 #![tactic(auto)]
 
@@ -25,6 +25,11 @@ fn print_items<T: Display>(rt: &impl Print, items: &[T]) -> io::Result<()> {
     Ok(())
 }
 
+// A sum with the last change, which is signed.
+fn print_sum(rt: &impl Print, name: &str, sum: u64, last: u64) -> io::Result<()> {
+    print!(rt; ", {name} {sum} ({:+})", totals::signed(last))
+}
+
 // Plays a list of calls on buffers of its own.
 fn print_after(
     rt: &impl Print,
@@ -35,14 +40,13 @@ fn print_after(
     let mut ledger = [0u32; 12];
     let mut tally = [0u64; 6];
     let p = replay::play(season, &mut sheet, &mut ledger, &mut tally, calls);
-    let reply = p.reply;
-    let answer = if reply.declined { "refused" } else { "verdict" };
-    print!(rt; "{answer} {}", reply.number)?;
-    print!(rt;
-        ", infeasibility {} ({:+})",
-        p.infeasibility, reply.infeasibility
-    )?;
-    print!(rt; ", objective {} ({:+})", p.objective, reply.objective)?;
+    match p.answer {
+        Ok(accepted) => print!(rt; "verdict {}", u8::from(accepted.verdict))?,
+        Err(refusal) => print!(rt; "refused {}", u8::from(refusal))?,
+    }
+    let last = played::changes_of(p.answer);
+    print_sum(rt, "infeasibility", p.sums.hard, last.hard)?;
+    print_sum(rt, "objective", p.sums.soft, last.soft)?;
     print!(rt; ", sheet")?;
     print_items(rt, &sheet)?;
     print!(rt; ", tally")?;

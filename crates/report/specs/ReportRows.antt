@@ -1,9 +1,13 @@
 -- The rows of a report, and what a report answers.
-use Rattle.std.specs.Prelude.{◌≡◌, ◌≢◌, List, [], ◌∷◌, ℕ, Result, MatchResult}
-use Rattle.std.specs.Borrow.{Bor}
+use Rattle.std.specs.Prelude.{◌≡◌, ◌≢◌, List, [], ◌∷◌, map, ℕ, Result, MatchResult}
 use Rattle.robinx.specs.Season.{decode}
-use Rattle.robinx.specs.Books.{timetable, penalty_at, total, is_hard, is_soft}
+use Rattle.robinx.specs.Books.{timetable, penalty_at}
 use Rattle.robinx.specs.Report.{broken_rows, report_fault, report_rows}
+use Rattle.robinx.specs.RefusalNumbers.{number_of}
+use Rattle.robinx.specs.declared.Refusal.{Refusal}
+use Rattle.replies.specs.Verdict.{verdict_number}
+use Rattle.report.specs.declared.BrokenConstraint.{BrokenConstraint}
+use Rattle.report.specs.declared.Report.{Report}
 
 -- on a sheet: the penalty of constraint c, and the rows of the broken constraints below c
 abbrev pub penalty_of : List ℕ → List ℕ → ℕ → ℕ
@@ -12,16 +16,17 @@ penalty_of season sheet c = penalty_at (decode season) (timetable (decode season
 abbrev pub broken_of : List ℕ → List ℕ → ℕ → List (List ℕ)
 broken_of season sheet c = broken_rows (decode season) sheet c
 
--- .. and all rows, with this verdict
-abbrev pub rows_of : ℕ → List ℕ → List ℕ → List (List ℕ)
-rows_of verdict season sheet =
-    let m = decode season in
-    let x = timetable m sheet in
-    (verdict ∷ total is_hard m x ∷ total is_soft m x ∷ []) ∷ broken_of season sheet m.C
+-- the row of a broken constraint
+abbrev pub row_of : BrokenConstraint → List ℕ
+row_of b = b.number ∷ b.kind ∷ b.penalty ∷ []
 
--- the rows, or the refusal's number
-abbrev pub Reported : List ℕ → Result (Bor (List (List ℕ))) ℕ → Type 0
+-- .. and all rows of a report
+abbrev pub rows_of : Report → List (List ℕ)
+rows_of r = (verdict_number r.verdict ∷ r.infeasibility ∷ r.objective ∷ []) ∷ map row_of r.broken.now
+
+-- the report whose rows are those of the input, or the refusal
+abbrev pub Reported : List ℕ → Result Report Refusal → Type 0
 Reported input r =
     MatchResult r
-    (λ rows. (report_fault input ≡ 0) × (rows.now ≡ report_rows input))
-    (λ number. (report_fault input ≢ 0) × (number ≡ report_fault input))
+    (λ report. (report_fault input ≡ 0) × (rows_of report ≡ report_rows input))
+    (λ refusal. (report_fault input ≢ 0) × (number_of refusal ≡ report_fault input))

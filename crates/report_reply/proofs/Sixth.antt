@@ -15,7 +15,7 @@ use Rattle.robinx.specs.declared.Season.{Season}
 use Rattle.robinx.proofs.Passed.{Clear, none_true}
 use Rattle.reader.specs.Sizes.{sizes_of}
 use Rattle.reader.proofs.Read.{constraints-read}
-use Rattle.season.proofs.Found.{no-fault, refused-first, passed-on}
+use Rattle.season.proofs.Found.{no-fault, sizes-found, refused-first, passed-on}
 use Rattle.season.specs.declared.Examined.{Examined}
 use Rattle.season.specs.Examination.{Examination}
 use Rattle.report_reply.specs.ReportReply.{up_to_six}
@@ -51,8 +51,8 @@ module _ (s : List ℕ) {e : Examined} (x : Examination (of_season s) s (Ok e)) 
     found = x.found;
   }
 
-  pub few-constraints : e.sizes.constraints ≤ most_constraints
-  few-constraints = few_words s (sym x.fault) x.found.sizes
+  pub few-constraints : e.season.sizes.constraints ≤ most_constraints
+  few-constraints = few_words s (sym x.fault) (sizes-found x.found)
 
 pub one-of-five : (s : List ℕ) {r : Refusal} → Examination (of_season s) s (Err r) → UpToSix s (Err r)
 one-of-five s x = record { fault = sym (refused-first s (sixth s) x); found = tt }

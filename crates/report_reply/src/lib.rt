@@ -1,4 +1,4 @@
-// The reply that a report is made of (docs/FORMAT.md, section 8): where the input is cut, sentence 6, and the opening.
+// The answer that a report is made of (docs/FORMAT.md, section 8): where the input is cut, sentence 6, and the opening.
 
 #![tactic(auto)]
 
@@ -6,9 +6,11 @@ ghost use Rattle.std.specs.Prelude.{◌≡◌, ◌+◌, ◌≤◌, length, take,
 ghost use Rattle.robinx.specs.Season.{most_constraints, most_deviations};
 ghost use Rattle.robinx.specs.Report.{season_of, sheet_of, report_fault};
 ghost use Rattle.season.specs.Examination.{Examination};
+ghost use Rattle.replies.specs.Reply.{reply_of};
 ghost use Rattle.report_reply.specs.ReportReply.{up_to_six, report_reply, TallyOf};
 
-use robinx::{Refusal, Reply};
+use replies::Accepted;
+use robinx::Refusal;
 use season::Examined;
 
 // The most deviations of a season that is reported.
@@ -29,9 +31,9 @@ pub fn season_end(input: &[u8]) -> usize
 }
 
 // Any bytes, by sentences 1 to 6.
-fn examine(season: &[u8]) -> Result<Examined, Refusal>
+fn examine<'a>(season: &'a [u8]) -> Result<Examined<'a>, Refusal>
     ensures told { Examination (up_to_six season.now) season.now result }
-    ensures few { IfOk result (λ e. (e.entries ≤ most_deviations) × (e.sizes.constraints ≤ most_constraints)) }
+    ensures few { IfOk result (λ e. (e.entries ≤ most_deviations) × (e.season.sizes.constraints ≤ most_constraints)) }
 {
     let found = season::examine(season)?;
     if MOST_DEVIATIONS < found.entries {
@@ -40,25 +42,20 @@ fn examine(season: &[u8]) -> Result<Examined, Refusal>
     Ok(found)
 }
 
-// The reply that the report is made of: the exported call's, so a flag and a number as in the C interface. Ledger and tally are used as far as
-// the season asks.
-pub fn open(input: &[u8], ledger: &mut [u32], tally: &mut [u64]) -> Reply
+// The answer that the report is made of: a refusal by sentences 1 to 6, or that of the opening. Ledger and tally are used as far as the season asks.
+pub fn open(input: &[u8], ledger: &mut [u32], tally: &mut [u64]) -> Result<Accepted, Refusal>
     requires { (length ledger.old ≡ most_deviations) × (length tally.old ≡ most_constraints + 2) }
-    ensures { (result ≡ report_reply input.now)
+    ensures { (reply_of result ≡ report_reply input.now)
         × (report_fault input.now ≡ 0
         → TallyOf (season_of input.now) (sheet_of input.now) tally.new) }
 {
     let (season, sheet) = input.split_at(season_end(input));
-    match examine(season) {
-        Ok(found) => {
-            let words = found.sizes.constraints + 2;
-            checker::season_open(
-                season,
-                sheet,
-                &mut ledger[..found.entries],
-                &mut tally[..words],
-            )
-        }
-        Err(refusal) => replies::declined(refusal),
-    }
+    let found = examine(season)?;
+    let words = found.season.sizes.constraints + 2;
+    checker::season_open(
+        season,
+        sheet,
+        &mut ledger[..found.entries],
+        &mut tally[..words],
+    )
 }

@@ -13,7 +13,7 @@ loop-words-init c = plays-open _ _ c.season_open.ensures c.of-played.ensures
 pub loop-words-preserved : goal.loop-words-preserved
 loop-words-preserved c =
     rw (map_more call_in c.as_chunks.result.0.now c.loop-words.words-index [] c.loop-words-test.true, c.then-played.ensures)
-    (plays-next _ _ _ c.loop-words.invariant (rw c.from.ensures at c.make-reply.ensures))
+    (plays-next _ _ _ c.loop-words.invariant (rw c.from.ensures at c.make-answer.ensures))
 
 pub returns : goal.returns
 returns c =

@@ -1,4 +1,4 @@
--- Each constraint in turn: the rows of those below c are written, at most one each.
+-- Each constraint in turn: those below c that are broken are written, at most all.
 use Prim.Native.Nat.{◌<◌}
 use native.Mathlib.Omega.{arith}
 use lib.ListN.{length}
@@ -8,24 +8,23 @@ use Rattle.robinx.specs.Season.{decode}
 use Rattle.report.proofs.Broken.{none_yet, not-broken, row-more, penalty-read}
 use Rattle.report.proofs.put_broken.Goals as goal
 
-pub loop-c-init : goal.loop-c-init
-loop-c-init c = record { few = search rules; rows = λ sheet f. none_yet (decode c.args.season.bytes.now) sheet _ }
+pub loop-number-init : goal.loop-number-init
+loop-number-init c = record { few = search rules; rows = λ sheet f. none_yet (decode c.args.season.bytes.now) sheet }
 
-pub loop-c-preserved-then-penalty-eq0 : goal.loop-c-preserved-then-penalty-eq0
-loop-c-preserved-then-penalty-eq0 c = record {
+pub loop-number-preserved-then-penalty-eq0 : goal.loop-number-preserved-then-penalty-eq0
+loop-number-preserved-then-penalty-eq0 c = record {
   few = search rules;
   rows = λ sheet f.
-      let e = penalty-read _ sheet _ f c.args.season.measured.sizes c.loop-c-test.true in
-      rw (← not-broken (decode c.args.season.bytes.now) sheet c.loop-c.c e c.if-penalty-eq0.true) (c.loop-c.invariant.rows sheet f);
+      let e = penalty-read _ sheet _ f c.args.season.measured.sizes c.loop-number-test.true in
+      rw (← not-broken (decode c.args.season.bytes.now) sheet c.loop-number.number e c.if-penalty-eq0.true) (c.loop-number.invariant.rows sheet f);
 }
 
-pub loop-c-preserved : goal.loop-c-preserved
-loop-c-preserved c = record {
+pub loop-number-preserved : goal.loop-number-preserved
+loop-number-preserved c = record {
   few = search rules;
   rows = λ sheet f.
-      let e = penalty-read _ sheet _ f c.args.season.measured.sizes c.loop-c-test.true in
-      let room : c.loop-c.count < length c.loop-c.out = omega (arith, length-take c.args.season.sizes.constraints c.args.tally.now) in
-      rw c.from.ensures
-      (row-more (decode c.args.season.bytes.now) sheet c.loop-c.c e c.constraint-kind.ensures c.if-penalty-eq0.false _ _
-      c.loop-c.count room (c.loop-c.invariant.rows sheet f));
+      let e = penalty-read _ sheet _ f c.args.season.measured.sizes c.loop-number-test.true in
+      let room : c.loop-number.count < length c.loop-number.out = omega (arith, length-take c.args.season.sizes.constraints c.args.tally.now) in
+      row-more (decode c.args.season.bytes.now) sheet c.loop-number.number e c.constraint.ensures c.if-penalty-eq0.false _
+      c.loop-number.count room (c.loop-number.invariant.rows sheet f);
 }

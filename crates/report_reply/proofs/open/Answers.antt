@@ -4,15 +4,18 @@ use borrow.Author.Rules.{rules}
 use Rattle.report_reply.proofs.Answered.{refused-early, opened-answers}
 use Rattle.report_reply.proofs.open.Goals as goal
 
-pub returns-in-Err : goal.returns-in-Err
-returns-in-Err c =
-    refused-early c.args.input.now (c.split_at.ensures.front ∙ c.season_end.ensures.1) c.in-Err.ensures.told _ c.declined.ensures
+pub returns-in_err-found : goal.returns-in_err-found
+returns-in_err-found c =
+    let refused =
+    refused-early c.args.input.now (c.split_at.ensures.front ∙ c.season_end.ensures.1) c.in_err-found.ensures.told c.args.tally.now in
+    search rules
 
-pub returns-in-Ok : goal.returns-in-Ok
-returns-in-Ok c =
-    opened-answers c.args.input.now (c.split_at.ensures.front ∙ c.season_end.ensures.1) c.in-Ok.ensures.told _ _
+pub returns : goal.returns
+returns c =
+    opened-answers c.args.input.now (c.split_at.ensures.front ∙ c.season_end.ensures.1) c.in_ok-found.ensures.told _ _
     (search rules)
     (search rules)
     (c.split_at.ensures.back ∙ c.season_end.ensures.2)
+    _
     _
     c.season_open.ensures
