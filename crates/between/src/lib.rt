@@ -90,6 +90,7 @@ fn fill_columns(kmin: u8, kmax: u8, s: Slots, p: usize, words: &[Slots], out: &m
     requires { (length words.now ≤ most_teams) × (p ≤ most_slots) × (length out.old ≡ size p s) }
     ensures { out.new ≡ each p s (λ k. outside kmin kmax (sum_by (λ word. bit word k) words.now)) }
 {
+    // by place: of what a zip of `iter_mut` wrote, the library says nothing once the loop is over
     for (at, k) in (0..p).filter(|&k| masks::is_in(s, k)).enumerate() {
         out[at] = outside(kmin, kmax, column(words, k));
     }

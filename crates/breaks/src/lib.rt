@@ -16,6 +16,7 @@ use groups::fill::{fill_each, total};
 use masks::{breaks_of, union};
 use opponents::check::Check;
 use opponents::measure::Sides;
+use opponents::{away, home};
 use robinx::Constraint;
 
 // A team's breaks of the mode's sides in S. A side that is not asked for has no games here, and so no breaks.
@@ -24,9 +25,10 @@ fn team_breaks(check: &Check, t: usize) -> u32
     ensures { (result ≡ of_check breaks check.now t) × (result ≤ 2 * most_slots) }
 {
     let sides = Sides::of_mode(check.constraint.mode);
-    let all = union(check.tables.home[t], check.tables.away[t]);
+    let tables = check.tables;
+    let all = union(tables.home[t], tables.away[t]);
     let s = check.constraint.s;
-    breaks_of(check.home(sides, t), check.away(sides, t), all, s)
+    breaks_of(home(tables, sides, t), away(tables, sides, t), all, s)
 }
 
 // How far a count of breaks is off kmax: modes 1 to 3 allow fewer.

@@ -1,7 +1,7 @@
--- `opponents::check::gather` meets its contract. Assumes nothing.
+-- `opponents::gather` meets its contract. Assumes nothing.
 use borrow.Author.Rules.{rules}
 use Rattle.opponents.proofs.Gathered.{union-fold}
-use Rattle.opponents.proofs.check.gather.Goals as goal
+use Rattle.opponents.proofs.gather.Goals as goal
 
 pub returns : goal.returns
 returns c =
