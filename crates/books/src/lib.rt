@@ -1,5 +1,5 @@
 // The ledger and the tally: a walk works out the touched constraints, all of them when the books are opened, and the totals follow. The two come one
-// by one, as the console lends them: of a struct of `&mut`s a clause would read books.exit.1.0.now for tally.new, and no fact may stand beside one.
+// by one, as the console lends them.
 
 #![tactic(auto)]
 
