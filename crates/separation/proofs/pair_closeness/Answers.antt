@@ -4,6 +4,6 @@ use Rattle.separation.proofs.pair_closeness.Goals as goal
 
 pub returns : goal.returns
 returns c =
-    let a = c.args in
+    let k = c.args.check.now in
     rw (c.closeness.ensures, c.front.ensures, c.union-met.ensures)
-    (pair-close a.tables.now.meets a.w a.p a.i a.j c.requires.0)
+    (pair-close k.tables.now.meets k.constraint.w k.sizes.slots c.args.i c.args.j k.checkable.slots)
