@@ -3,19 +3,20 @@
 
 #![tactic(auto)]
 
-ghost use Rattle.std.specs.Prelude.{◌≡◌, ◌≤◌};
-ghost use Rattle.robinx.specs.Season.{most_teams, most_slots};
+ghost use Rattle.std.specs.Prelude.{◌≡◌};
 ghost use Rattle.robinx.specs.Kinds.{asks, asks_of};
 ghost use Rattle.robinx.specs.Rules.{obeys};
 
 use robinx::Field::{Any, Some, UpToKmax, Zero};
-use robinx::{Asks, Constraint, Field, Kind, Season};
+use robinx::{Asks, Constraint, Field, Kind};
+use rules::dimensions::Dimensions;
 use rules::keeps;
 
 const YES: bool = true;
 
 const NO: bool = false;
 
+// A row in one line, its fields in the definition's order: by name, the thirteen rows would be as many records of ten lines.
 fn asks(
     first: u8,
     last: u8,
@@ -45,7 +46,7 @@ fn asks(
 }
 
 // What a kind asks: the modes, whether the penalty may square, kmin, kmax, w, T2, S, the fewest teams of T1, and whether T1 or T2 has several.
-// What is no kind asks for a mode that there is not.
+// What is no kind asks for a mode that there is not. In line, as `keeps` is: a row that is known is folded.
 #[inline(always)]
 #[tactic(auto, unfolding(robinx::specs::Kinds::asks_of))]
 pub fn asks_of(kind: Kind) -> Asks
@@ -71,23 +72,22 @@ pub fn asks_of(kind: Kind) -> Asks
 // Whether a constraint keeps every rule of its kind; what is no kind keeps none. Each kind by itself, so that its row is folded into the tests:
 // with a row that is looked up a set is 2 to 7 % dearer.
 #[tactic(auto, unfolding(robinx::specs::Kinds::asks_at, robinx::specs::Rules::obeys))]
-pub fn obeys(c: Constraint, z: Season) -> bool
-    requires { (1 ≤ z.teams) × (z.teams ≤ most_teams) × (1 ≤ z.slots) × (z.slots ≤ most_slots) }
-    ensures { result ≡ obeys z.teams z.slots c }
+pub fn obeys(c: Constraint, d: Dimensions) -> bool
+    ensures { result ≡ obeys d.teams d.slots c }
 {
     match Kind::from(c.kind) {
-        Kind::Ca1 => keeps(asks_of(Kind::Ca1), c, z),
-        Kind::Ca2 => keeps(asks_of(Kind::Ca2), c, z),
-        Kind::Ca3 => keeps(asks_of(Kind::Ca3), c, z),
-        Kind::Ca4 => keeps(asks_of(Kind::Ca4), c, z),
-        Kind::Ca5 => keeps(asks_of(Kind::Ca5), c, z),
-        Kind::Ga1 => keeps(asks_of(Kind::Ga1), c, z),
-        Kind::Br1 => keeps(asks_of(Kind::Br1), c, z),
-        Kind::Br2 => keeps(asks_of(Kind::Br2), c, z),
-        Kind::Br4 => keeps(asks_of(Kind::Br4), c, z),
-        Kind::Fa1 => keeps(asks_of(Kind::Fa1), c, z),
-        Kind::Fa2 => keeps(asks_of(Kind::Fa2), c, z),
-        Kind::Se1 => keeps(asks_of(Kind::Se1), c, z),
-        Kind::Unknown => keeps(asks_of(Kind::Unknown), c, z),
+        Kind::Ca1 => keeps(asks_of(Kind::Ca1), c, d),
+        Kind::Ca2 => keeps(asks_of(Kind::Ca2), c, d),
+        Kind::Ca3 => keeps(asks_of(Kind::Ca3), c, d),
+        Kind::Ca4 => keeps(asks_of(Kind::Ca4), c, d),
+        Kind::Ca5 => keeps(asks_of(Kind::Ca5), c, d),
+        Kind::Ga1 => keeps(asks_of(Kind::Ga1), c, d),
+        Kind::Br1 => keeps(asks_of(Kind::Br1), c, d),
+        Kind::Br2 => keeps(asks_of(Kind::Br2), c, d),
+        Kind::Br4 => keeps(asks_of(Kind::Br4), c, d),
+        Kind::Fa1 => keeps(asks_of(Kind::Fa1), c, d),
+        Kind::Fa2 => keeps(asks_of(Kind::Fa2), c, d),
+        Kind::Se1 => keeps(asks_of(Kind::Se1), c, d),
+        Kind::Unknown => keeps(asks_of(Kind::Unknown), c, d),
     }
 }

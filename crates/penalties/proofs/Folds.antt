@@ -13,6 +13,8 @@ pub squares-is : (l : List ℕ) → sum_of_squares l ≡ sum_by (λ d. d * d) l
 unfolding sum_of_squares
 squares-is = is_sum_by sum_of_squares (λ d. d * d) refl (λ d l. refl)
 
+pub ruleset sums = (sum-is, squares-is)
+
 -- the largest and the smallest of a list behind d
 fold-largest : (d : ℕ) (l : List ℕ) → fold max d l ≡ max d (largest l)
 unfolding largest

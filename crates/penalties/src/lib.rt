@@ -3,10 +3,12 @@
 #![tactic(auto)]
 
 ghost use Rattle.std.specs.Prelude.{◌≡◌, ◌^◌, ◌<◌, min, max};
-ghost use Rattle.robinx.specs.Penalty.{sum, sum_of_squares, largest, smallest, combine, penalty};
+ghost use Rattle.robinx.specs.Penalty.{sum, sum_of_squares, largest, smallest, function_number, combine, penalty};
 
 use robinx::Constraint;
+use robinx::function::Function;
 
+#[tactic(auto, using(crate::proofs::Folds::sums))]
 fn sum(l: &[u32]) -> u64
     requires { sum l.now < 2 ^ 64 }
     ensures { result ≡ sum l.now }
@@ -14,6 +16,7 @@ fn sum(l: &[u32]) -> u64
     l.iter().map(|&d| u64::from(d)).sum()
 }
 
+#[tactic(auto, using(crate::proofs::Folds::sums))]
 fn sum_of_squares(l: &[u32]) -> u64
     requires { sum_of_squares l.now < 2 ^ 64 }
     ensures { result ≡ sum_of_squares l.now }
@@ -33,30 +36,31 @@ fn smallest(l: &[u32]) -> u32
     l.iter().copied().min().unwrap_or(0)
 }
 
-// The constraint's function of the deviations: 1 to 5 are sum, square of the sum, sum of squares, smallest and largest.
-#[tactic(auto, unfolding(robinx::specs::Penalty::combine))]
-fn combined(function: u8, l: &[u32]) -> u64
+// What the function makes of the deviations.
+#[tactic(auto, using(crate::proofs::Functions::squares_low), unfolding(robinx::specs::Penalty::combine))]
+fn combined(function: Function, l: &[u32]) -> u64
     requires { sum l.now < 2 ^ 32 }
-    ensures { result ≡ combine function l.now }
+    ensures { result ≡ combine (function_number function) l.now }
 {
-    // by the byte of the format: an enum would be made here and matched at once, and nowhere else, so it is no plainer
     match function {
-        1 => sum(l),
-        2 => {
+        Function::Sum => sum(l),
+        Function::SquareOfSum => {
             let s = sum(l);
             s * s
         }
-        3 => sum_of_squares(l),
-        4 => u64::from(smallest(l)),
-        _ => u64::from(largest(l)),
+        Function::SumOfSquares => sum_of_squares(l),
+        Function::Smallest => u64::from(smallest(l)),
+        Function::Largest => u64::from(largest(l)),
     }
 }
 
-// A weight is a byte, so a sum below 2^28 leaves room; that of a season's deviations is at most 530400.
-#[tactic(auto, unfolding(robinx::specs::Penalty::penalty))]
+// A weight is a byte, so a sum below 2^28 leaves room; that of a season's deviations is at most 530400. What is no function, which no rule
+// allows, gives the largest.
+#[tactic(auto, using(crate::proofs::Functions::penalty_rules), unfolding(robinx::specs::Penalty::penalty))]
 pub fn penalty(c: Constraint, l: &[u32]) -> u64
     requires { sum l.now < 2 ^ 28 }
     ensures { result ≡ penalty c l.now }
 {
-    u64::from(c.weight) * combined(c.function, l)
+    let function = Function::try_from(c.function).unwrap_or(Function::Largest);
+    u64::from(c.weight) * combined(function, l)
 }

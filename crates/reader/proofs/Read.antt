@@ -2,8 +2,12 @@
 use mathlib.Core.Path.{◌≡◌, sym, ap, ◌∙◌}
 use mathlib.Core.List.{List}
 use mathlib.Core.Bool.{false, not}
-use Prim.Native.Nat.{ℕ, ◌+◌, ◌*◌, ◌≤◌}
-use lib.ListN.{length}
+use Prim.Native.Nat.{ℕ, ◌+◌, ◌*◌, ◌-◌, ◌≤◌}
+use lib.ListN.{length, take, drop, get_or}
+use native.Mathlib.Omega.{arith}
+use Rattle.std.specs.Prelude.{slice_index}
+use Rattle.std.proofs.Common.{take_all, length-drop}
+use Rattle.std.proofs.lemmas.List.{get_or-drop}
 use borrow.Author.Tests.{eq-eqb}
 use Rattle.robinx.specs.Season.{decode, season_length, home_teams, away_teams, most_teams, most_slots, most_games, most_constraints}
 use Rattle.robinx.specs.Refusals.{sentence2, sentence3}
@@ -34,8 +38,6 @@ module _ (s : List ℕ) {z : Season} (e : z ≡ sizes_of s) where
   unfolding season_length decode
   length-asked = rw (games-read, constraints-read)
 
-  pub ruleset asked = (length-asked)
-
   pub sizes-tested : sentence2 (decode s) ≡ out_of_range z
   unfolding sentence2 out_of_range
   sizes-tested = rw (teams-read, slots_read, games-read, constraints-read)
@@ -55,8 +57,6 @@ in-range z e =
     let sizes = sizes-in z.teams z.slots z.games z.constraints e in
     record { teams-least = sizes.0; teams = sizes.1; slots-least = sizes.2; slots = sizes.3; games = sizes.4; constraints = sizes.5 }
 
-pub ruleset ranges = (in-range)
-
 module _ (s : List ℕ) where
   pub right-length : {z : Season} → Measured s z → sentence3 s ≡ false
   unfolding sentence3
@@ -65,3 +65,7 @@ module _ (s : List ℕ) where
   pub as_many : sentence3 s ≡ false → length (away_teams s) ≡ length (home_teams s)
   unfolding decode
   as_many h = decode-away s h ∙ sym (decode-home s h)
+
+-- an item of what begins at place a
+pub part_at : (s : List ℕ) (a i : ℕ) → slice_index (take (length s - a) (drop a s)) i ≡ get_or s (a + i) 0
+part_at s a i = rw (take_all (length s - a) (drop a s) (omega (arith, length-drop a s)), get_or-drop)

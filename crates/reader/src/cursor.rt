@@ -14,15 +14,6 @@ pub struct Cursor<'a> {
     pub ghost within: { at ≤ season.sizes.constraints },
 }
 
-impl<'a> Cursor<'a> {
-    // Before the first constraint.
-    pub fn new(season: SeasonView<'a>) -> Self
-        ensures { (result.season ≡ season.entry) × (result.at ≡ 0) }
-    {
-        Cursor { season, at: 0 }
-    }
-}
-
 impl<'a> Iterator for Cursor<'a> {
     ghost use Rattle.reader.specs.Cursor.{ReadsNext};
 

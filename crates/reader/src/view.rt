@@ -10,11 +10,11 @@ use robinx::{Constraint, Season};
 pub struct SeasonView<'a> {
     pub bytes: &'a [u8],
     pub sizes: Season,
-    ghost measured: { Measured bytes.now sizes },
+    pub ghost measured: { Measured bytes.now sizes },
 }
 
 impl<'a> SeasonView<'a> {
-    // The home team of each game.
+    // The home team of each game; the away teams stand behind them.
     #[tactic(auto, using(crate::proofs::Read::sizes_read), unfolding(robinx::specs::Season::home_teams, robinx::specs::Season::decode))]
     pub fn homes(self) -> &'a [u8]
         ensures { result.now ≡ home_teams self.entry.bytes.now }
@@ -44,10 +44,13 @@ impl<'a> SeasonView<'a> {
         super::constraint_from(self.bytes, heads + 8 * k, bodies + 16 * k)
     }
 
-    // All constraints.
+    // All constraints, from the first one on.
     pub fn constraints(self) -> Cursor<'a>
         ensures { (result.season ≡ self.entry) × (result.at ≡ 0) }
     {
-        Cursor::new(self)
+        Cursor {
+            season: self,
+            at: 0,
+        }
     }
 }

@@ -35,7 +35,7 @@ stretches m ledger zero = refl
 stretches m ledger (suc k) =
     ap (λ (l : List ℕ). l ++ stretch_at m ledger k) (stretches m ledger k) ∙ sym (take-add (start_at m k) (entries_at m k) ledger)
 
-words : (l : List ℕ) (k : ℕ) → k ≤ length l → list_to (λ c. get_or l c 0) k ≡ take k l
+pub words : (l : List ℕ) (k : ℕ) → k ≤ length l → list_to (λ c. get_or l c 0) k ≡ take k l
 unfolding cat_to
 words l zero h = refl
 words l (suc k) h = ap (λ (p : List ℕ). p ++ get_or l k 0 ∷ []) (words l k (omega arith)) ∙ sym (take-suc l k 0 h)

@@ -10,6 +10,7 @@ pub mod Ext
 pub mod GroupSizes
 pub mod Bits
 pub mod SetBits
+pub mod Sheet
 pub mod Stops
 pub mod Trips
 pub mod TripFormula

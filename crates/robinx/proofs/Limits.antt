@@ -1,5 +1,5 @@
 -- What a season that no sentence refuses gives: its sizes, teams and constraints are in their ranges, and so its figures are small.
-use mathlib.Core.Path.{◌≡◌}
+use mathlib.Core.Path.{◌≡◌, subst}
 use mathlib.Core.Logic.{◌≢◌}
 use mathlib.Core.List.{List}
 use mathlib.Core.Bool.{Bool, true, false, ◌&&◌, ◌||◌, not}
@@ -137,6 +137,13 @@ obeyed n P c h =
       fewest = leb-true f.fewest (size n c.t1) fewest.1;
       several = several.1;
     }
+
+-- what is no kind keeps no rules
+pub known : {n P : ℕ} {c : Constraint} → Obeys n P c → kind_of c.kind ≢ Unknown
+unfolding asks_of asks_at
+known {c = c} o e =
+    let h = subst (λ k. fits (asks_of k).first (asks_of k).last c.mode ≡ true) e o.mode-in in
+    let b = fits_in 1 0 c.mode h in omega arith
 
 pub record GoodGame (m : Instance) (g : ℕ) : Type 0 where
   pub home : get_or m.home g 0 < m.n

@@ -103,3 +103,7 @@ module _ (season : List ℕ) (b : Buffers) where
 -- a refusal has a number
 pub never-0 : (r : Refusal) → number_of r ≡ 0 → ⊥
 never-0 r e = grind arith
+
+-- .. so that what comes after it does not count
+pub stays : (r : Refusal) (n : ℕ) → or_else (number_of r) n ≡ number_of r
+stays r n = grind arith

@@ -62,6 +62,11 @@ unfolding sum_to
 sum-zero zero h = refl
 sum-zero (suc n) h = omega (arith, sum-zero n (λ k l. h k (omega arith)), h n (omega arith))
 
+-- a sum of what one test asks for
+pub only_sum : (b : Bool) (f : ℕ → ℕ) (n : ℕ) → sum_to (λ j. only b (f j)) n ≡ only b (sum_to f n)
+only_sum true f n = refl
+only_sum false f n = sum-zero n (λ j l. refl)
+
 pub sum-add : (f g : ℕ → ℕ) (n : ℕ) → sum_to (λ k. f k + g k) n ≡ sum_to f n + sum_to g n
 unfolding sum_to
 sum-add f g zero = omega arith

@@ -66,7 +66,8 @@ unfoldable pub last : List ℕ → Outcome → List Call → Outcome
 last season o [] = o
 last season o (k ∷ ks) = last season (next season o k) ks
 
--- ---- Demand 2: deviations, penalties, totals and verdict are those that RobinX, section 3.2, gives for the sheet (docs/FORMAT.md, sections 1, 3, 4).
+-- ---- Demand 2: deviations, penalties, totals and verdict are those that RobinX, section 3.2, gives for the sheet (docs/FORMAT.md, sections
+-- 1, 3, 4).
 
 -- The books, word by word, where the timetable of the sheet is x: the deviations of constraint c stand in its own stretch of the ledger, none
 -- left out; word c of the tally is its penalty, and the last two are the sums of the penalties of hard and of soft constraints.

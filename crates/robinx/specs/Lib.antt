@@ -1,6 +1,7 @@
 pub mod Sums
 pub mod Groups
 pub mod Season
+pub mod Sheet
 pub mod Timetable
 pub mod Kinds
 pub mod Deviations

@@ -1,6 +1,8 @@
 -- A constraint's penalty: its weight times one of five functions of its deviations (RobinX, formulas (1) to (5)).
 use Rattle.std.specs.Prelude.{List, [], ◌∷◌, cond, ℕ, ◌+◌, ◌*◌, max, min, eqb}
 use Rattle.robinx.specs.declared.Constraint.{Constraint}
+use Rattle.robinx.specs.declared.function.Function.{Function}
+use Rattle.robinx.specs.declared.function.Function.TheVariants.{Sum, SquareOfSum, SumOfSquares, Smallest, Largest}
 
 unfoldable pub sum : List ℕ → ℕ
 sum [] = 0
@@ -19,6 +21,13 @@ unfoldable pub smallest : List ℕ → ℕ
 smallest [] = 0
 smallest (d ∷ []) = d
 smallest (d ∷ (e ∷ l)) = min d (smallest (e ∷ l))
+
+abbrev pub function_number : Function → ℕ
+function_number Sum = 1
+function_number SquareOfSum = 2
+function_number SumOfSquares = 3
+function_number Smallest = 4
+function_number Largest = 5
 
 -- functions 1 to 5: sum, square of the sum, sum of squares, smallest, largest
 unfoldable pub combine : ℕ → List ℕ → ℕ

@@ -18,10 +18,6 @@ most_constraints = 1024
 abbrev pub most_meetings : ℕ
 most_meetings = 8
 
--- a table's words, one for each two teams
-abbrev pub most_places : ℕ
-most_places = most_teams * most_teams
-
 -- the most deviations that the report program takes
 abbrev pub most_deviations : ℕ
 most_deviations = 6000

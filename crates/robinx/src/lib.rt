@@ -2,10 +2,17 @@
 
 #![tactic(auto)]
 
-ghost use Rattle.std.specs.Prelude.{◌≡◌};
+ghost use Rattle.std.specs.Prelude.{◌≡◌, ◌+◌, ◌*◌, ◌<◌};
+ghost use Rattle.robinx.specs.Books.{is_hard};
 ghost use Rattle.robinx.specs.Kinds.{kind_of};
 ghost use Rattle.robinx.specs.Timetable.{first_modes};
 ghost use Rattle.robinx.specs.RefusalNumbers.{number_of};
+
+pub mod function;
+pub mod game;
+pub mod range;
+
+use range::CountRange;
 
 // The sizes of a season.
 #[derive(Clone, Copy)]
@@ -27,15 +34,22 @@ impl Season {
 
     pub const MEETINGS: usize = 8;
 
-    // a table's words, one for each two teams
-    pub const PLACES: usize = Season::TEAMS * Season::TEAMS;
+    // How many bytes a season of these sizes has: the sizes, two teams a game, a head and a body a constraint.
+    pub fn length(self) -> usize
+        requires { (self.games < 65536) × (self.constraints < 65536) }
+        ensures { result ≡ 6 + 2 * self.games + 24 * self.constraints }
+    {
+        6 + 2 * self.games + 24 * self.constraints
+    }
 }
 
-// A set of slots: those of a constraint, or of a team's games. Crate `masks` has all that is done with one.
+// A set of slots: those of a constraint, or of a team's games. Crates `masks` and `bits` have all that is done with one; an alias, since methods on
+// a type would have to stand here, where nothing knows what a mask is.
 pub type Slots = u64;
 
 // A constraint: the eight bytes of its head, the three groups of its body. They are numbers, as the file has them: a constraint that breaks
-// every rule has to be held too. What a byte stands for is decided in one place each.
+// every rule has to be held too. What its kind means is decided by `Kind::from` alone, its function by `Function::try_from`; of its mode
+// `first_modes` tells whether it is one of 1 to 3, `opponents` which sides it means, and `rules` whether its kind has it.
 #[derive(Clone, Copy)]
 pub struct Constraint {
     pub kind: u8,
@@ -58,10 +72,28 @@ impl Constraint {
     {
         self.mode <= 3
     }
+
+    // Its penalty counts for the infeasibility, and not for the objective.
+    pub fn is_hard(self) -> bool
+        ensures { result ≡ is_hard self }
+    {
+        self.hard == 1
+    }
+
+    // kmin .. kmax.
+    pub fn range(self) -> CountRange
+        ensures { result ≡ record { low = self.kmin; high = self.kmax } }
+    {
+        CountRange {
+            low: self.kmin,
+            high: self.kmax,
+        }
+    }
 }
 
 // The kinds by RobinX's names, and what is no kind. That has a row of its own in specs/Kinds.antt: no mode, so that it breaks the rules, and
-// neither deviations nor changes. As a kind it needs no branch anywhere; as the None of an Option it would need one wherever a kind is used.
+// neither deviations nor changes. So it is one more arm where a kind is matched (`kinds`, `kind_rules`, `figures`); as the None of an Option
+// it would be that too, with a Some around each other arm.
 #[derive(Clone, Copy, Debug, PartialEq, Eq)]
 pub enum Kind {
     Ca1,
@@ -182,7 +214,7 @@ pub struct Form {
     pub slots: TouchSlots,
 }
 
-// What a call answers: a refusal's number, or a verdict with the changes of infeasibility and objective. It is no enum: the C interface
+// What a call of the C interface answers: a refusal's number, or a verdict with the changes of infeasibility and objective. It is no enum: C
 // reads its flag and its number.
 #[repr(C)]
 #[derive(Clone, Copy)]

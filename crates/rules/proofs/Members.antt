@@ -56,8 +56,8 @@ module _ (f : Asks) (n P : ℕ) (c : Constraint) where
   unfolding keeps head_keeps counts_keep groups_keep sizes
   in_parts = simp and_assoc
 
-  pub keeps-counted : keeps f n P c ≡ head && counts && members && sizes_keep f.fewest f.several c
-  keeps-counted = in_parts ∙ guarded (head && counts) members sizes (sizes_keep f.fewest f.several c) sizes-counted
+  pub keeps_counted : keeps f n P c ≡ head && counts && members && sizes_keep f.fewest f.several c
+  keeps_counted = in_parts ∙ guarded (head && counts) members sizes (sizes_keep f.fewest f.several c) sizes-counted
 
 module _ (n P : ℕ) (c : Constraint) (t1 : c.t1 < 2 ^ n) (s : slots_of c < 2 ^ P) where
   shape-counted : (h : Shape) → in_shape h n P c ≡ ones_in h c
