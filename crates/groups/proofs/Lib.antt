@@ -1,4 +1,3 @@
 pub mod Pairs
-pub mod MemberWalk
 pub mod Figures
 pub mod FigureWalk

@@ -1,4 +1,5 @@
--- The figures of a group's members and of their pairs. What a figure asks and gives is a fact of the team, or of two; the group may be one of any n teams.
+-- The figures of a group's members and of their pairs. What a figure asks and gives is a fact of the team, or of two; the group may be one of any
+-- n teams.
 use Rattle.std.specs.Prelude.{◌≡◌, List, true, ℕ, ◌^◌, ◌<◌, ◌≤◌}
 use Rattle.robinx.specs.Season.{most_teams}
 use Rattle.robinx.specs.Sums.{sum_to, only}
@@ -20,9 +21,13 @@ Gives n T post f = OfMembers n T (λ t. (r : ℕ) → post t r → r ≡ f t)
 abbrev pub GivesPairs : ℕ → ℕ → (ℕ → ℕ → ℕ → Type 0) → (ℕ → ℕ → ℕ) → Type 0
 GivesPairs n T post f = OfPairs n T (λ i j. (r : ℕ) → post i j r → r ≡ f i j)
 
--- the list has the figure of each member, lowest first
+-- the list has the figure of each member, lowest first, whichever number up to m the members are below
+abbrev pub FigureOfEach : ℕ → ℕ → (ℕ → ℕ → Type 0) → List ℕ → Type 0
+FigureOfEach m T post l = (n : ℕ) (f : ℕ → ℕ) → n ≤ m → T < 2 ^ n → Gives n T post f → l ≡ each n T f
+
+-- .. of teams
 abbrev pub EachFigure : ℕ → (ℕ → ℕ → Type 0) → List ℕ → Type 0
-EachFigure T post l = (n : ℕ) (f : ℕ → ℕ) → n ≤ most_teams → T < 2 ^ n → Gives n T post f → l ≡ each n T f
+EachFigure = FigureOfEach most_teams
 
 -- .. of each pair
 abbrev pub EachPairFigure : ℕ → (ℕ → ℕ → ℕ → Type 0) → List ℕ → Type 0

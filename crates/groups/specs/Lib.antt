@@ -1,3 +1,2 @@
 pub mod Pairs
-pub mod MemberWalk
 pub mod Figures

@@ -1,8 +1,10 @@
-// Groups of teams: bit t of a u32 is team t. Everything that knows how many teams a group has room for is in here.
+// Groups of teams: bit t of a u32 is team t, and the rules of T1 and T2 read the number as it is. `is_in`, `one`, `everyone`, `size_of` and `members`
+// are no twins of functions of `masks`: what is done with the word of a mask is done there alone, since it may become several. That a team is below
+// the most that there may be is the bound of an index, and a clause in each function here and above.
 
 #![tactic(auto)]
 
-ghost use Rattle.std.specs.Prelude.{◌≡◌, ◌+◌, ◌-◌, ◌<◌, ◌≤◌, ◌^◌};
+ghost use Rattle.std.specs.Prelude.{◌≡◌, ◌-◌, ◌<◌, ◌≤◌, ◌^◌};
 ghost use Rattle.std.specs.Int.Count.{ones};
 ghost use Rattle.robinx.specs.Season.{most_teams};
 ghost use Rattle.robinx.specs.Groups.{has};
@@ -10,6 +12,7 @@ ghost use Rattle.groups.specs.Pairs.{pairs_in};
 
 pub mod fill;
 
+use bits::SetBits;
 use robinx::Season;
 
 // Team t is in the group.
@@ -29,6 +32,7 @@ pub fn one(t: usize) -> u32
 }
 
 // The group of all n teams.
+#[tactic(auto, using(crate::proofs::Pairs::group_rules))]
 pub fn everyone(n: usize) -> u32
     requires { (1 ≤ n) × (n ≤ most_teams) }
     ensures { result ≡ 2 ^ n - 1 }
@@ -45,6 +49,7 @@ pub fn size_of(group: u32) -> usize
 }
 
 // How many pairs they make.
+#[tactic(auto, unfolding(crate::specs::Pairs::pairs_in))]
 pub fn pairs_of(group: u32) -> usize
     ensures { result ≡ pairs_in group }
 {
@@ -52,59 +57,9 @@ pub fn pairs_of(group: u32) -> usize
     (k * k - k) / 2
 }
 
-// A walk over the members of a group, lowest first: `rest` has the members from place `at` on, moved down to bit 0.
-#[derive(Clone, Copy, Drop)]
-pub struct Members {
-    pub at: usize,
-    pub rest: u32,
-    pub ghost room: { at ≤ most_teams },
-    pub ghost teams: { rest < 2 ^ (most_teams - at) },
-}
-
-impl Members {
-    ghost use Rattle.groups.specs.MemberWalk.{From};
-
-    // Before the first member.
-    pub fn of(group: u32) -> Self
-        ensures { From group 0 result }
-    {
-        Self { at: 0, rest: group }
-    }
-
-    // Before the first member that is higher than i.
-    pub fn above(group: u32, i: usize) -> Self
-        requires { i < most_teams }
-        ensures { From group (i + 1) result }
-    {
-        Self {
-            at: i + 1,
-            rest: (group >> i) >> 1,
-        }
-    }
-}
-
-impl Iterator for Members {
-    ghost use Rattle.std.specs.Iterator.{at_most};
-    ghost use Rattle.groups.specs.MemberWalk.{Steps};
-
-    type Item = usize;
-
-    ghost next_gives = { Steps };
-
-    ghost remaining = { λ m. at_most (most_teams - m.at) };
-
-    // The next member.
-    fn next(&mut self) -> Option<usize> {
-        if self.rest == 0 {
-            return None;
-        }
-        let z = self.rest.trailing_zeros();
-        // a cast, since usize has no From<u32>
-        let team = self.at + z as usize;
-        *self = Self {
-            at: team + 1,
-            rest: (self.rest >> z) >> 1,
-        };
-        Some(team)
-    }
+// The walk over the members of a group, lowest first.
+pub fn members(group: u32) -> SetBits
+    ensures { result.rest ≡ group }
+{
+    SetBits::of(u64::from(group))
 }

@@ -1,8 +1,8 @@
--- The first slot of a mask, its slots outside another one, and where its last one is.
+-- The slots of a mask outside another one, and where its last one is.
 use Rattle.std.proofs.Common.{◌≡◌, ℕ, zero, suc, ◌+◌, ◌-◌, ◌/◌, ◌^◌, ◌<◌, ◌≤◌, Bool, true, false, cond, not, ◌&&◌, eqb, ltb}
 use Rattle.std.proofs.Common.{refl, ap, ◌∙◌, ap₂, mod-lt, arith, pow_pos, shr_lt, le-ltb, lt-ltb, leb-true}
-use Rattle.std.specs.Int.{Width, w64, bit_not, trailing_zeros}
-use Rattle.std.proofs.lemmas.Nat.Bits.{bit_at_not, bit_at-trailing_zeros}
+use Rattle.std.specs.Int.{Width, bit_not}
+use Rattle.std.proofs.lemmas.Nat.Bits.{bit_at_not}
 use mir.Val.{bits}
 use lib.Bits.{bit_and, and_le_l}
 use lib.Pow.{split}
@@ -10,12 +10,6 @@ use Rattle.robinx.specs.Groups.{has}
 use Rattle.robinx.specs.Timetable.{last_was}
 use Rattle.robinx.proofs.Ext.{has-reaches}
 use Rattle.robinx.proofs.Bits.{at_bits, and-has, out-bit}
-use Rattle.masks.specs.Masks.{First}
-
-pub first_slot : (m : ℕ) → m < 2 ^ 64 → 0 < m → First m (trailing_zeros w64 m)
-first_slot m h n =
-    let t = bit_at-trailing_zeros w64 m n h in
-    record { within = t.0; found = ap (λ (b : ℕ). eqb b 1) t.1; clear = λ k l. ap (λ (b : ℕ). eqb b 1) (t.2 k l) }
 
 -- a number by its bit K
 above : (m K : ℕ) → has m K ≡ true → 2 ^ K ≤ m

@@ -6,4 +6,3 @@ pub mod GapWalk
 pub mod Borrow
 pub mod Ends
 pub mod TripStarts
-pub mod OneFewer

@@ -1,5 +1,5 @@
 -- Masks of slots as plain numbers of any width.
-use Rattle.std.specs.Prelude.{◌≡◌, ℕ, ◌+◌, ◌^◌, ◌<◌, ◌≤◌, Bool, true, false, ◌&&◌, bit_or, bit_xor}
+use Rattle.std.specs.Prelude.{◌≡◌, ℕ, ◌+◌, ◌^◌, ◌<◌, ◌≤◌, Bool, ◌&&◌, bit_or, bit_xor}
 use Rattle.robinx.specs.Season.{most_slots}
 use Rattle.robinx.specs.Sums.{only}
 use Rattle.robinx.specs.Groups.{bit, has}
@@ -24,12 +24,6 @@ Apart m n = (k : ℕ) → k < most_slots → bit m k + bit n k ≤ 1
 -- of the first n slots the mask has those that pass the test
 abbrev pub Marks : ℕ → (ℕ → Bool) → ℕ → Type 0
 Marks n p m = (k : ℕ) → k < n → has m k ≡ p k
-
--- r is the first slot of m
-pub record First (m r : ℕ) : Type 0 where
-  pub within : r < most_slots
-  pub found : has m r ≡ true
-  pub clear : (k : ℕ) → k < r → has m k ≡ false
 
 -- slot k has a game of the side, and the last game before it was of the side too
 abbrev pub is_break : ℕ → ℕ → ℕ → Bool

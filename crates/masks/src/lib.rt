@@ -1,16 +1,20 @@
-// Masks of slots: bit k of a u64 stands for slot k, counted from 0. Everything that knows that a mask is one word is in here. A count of bits is a
-// u32, and Rust has no From of it to a usize: so it is cast.
+// Masks of slots: bit k of a u64 stands for slot k, counted from 0. What is done with this word is done in here, with the walk of crate `bits`;
+// `reader` makes it of a season's bytes, and `summary` keeps it among its words. That a slot is below the most that there may be is the bound of
+// an index, and a clause in each function. A count of bits is a u32, and Rust has no From of it to a usize: so it is cast.
 
 #![tactic(auto)]
 
-ghost use Rattle.std.specs.Prelude.{◌≡◌, ◌+◌, ◌-◌, ◌/◌, ◌%◌, ◌^◌, ◌<◌, ◌≤◌, ◌==◌, bit_and, bit_or, count_ones, nat_le};
+ghost use Rattle.std.specs.Prelude.{◌≡◌, ◌-◌, ◌*◌, ◌/◌, ◌%◌, ◌^◌, ◌<◌, ◌≤◌, ◌==◌, bit_and, bit_or, count_ones, nat_le};
 ghost use Rattle.robinx.specs.Season.{most_slots};
-ghost use Rattle.robinx.specs.Sums.{only, sum_to};
+ghost use Rattle.robinx.specs.Sums.{list_to, sum_to};
 ghost use Rattle.robinx.specs.Groups.{bit, has, reaches};
-ghost use Rattle.robinx.specs.Timetable.{last_was, starts_trip, on_trip};
+ghost use Rattle.robinx.specs.Timetable.{last_was};
 ghost use Rattle.robinx.specs.Deviations.{over, too_close};
-ghost use Rattle.masks.specs.Masks.{joined, without, Within, Apart, is_break, Breaks, Marks, First};
+ghost use Rattle.masks.specs.Masks.{joined, without};
 
+pub mod pattern;
+
+use bits::SetBits;
 use robinx::{Season, Slots};
 
 // No slot.
@@ -60,6 +64,13 @@ pub fn size(s: Slots) -> usize
     s.count_ones() as usize
 }
 
+// The walk over the slots of the mask, first to last.
+pub fn slots_in(s: Slots) -> SetBits
+    ensures { result.rest ≡ s }
+{
+    SetBits::of(s)
+}
+
 // Slot k is in the mask.
 pub fn is_in(s: Slots, k: usize) -> bool
     requires { k < most_slots }
@@ -68,7 +79,7 @@ pub fn is_in(s: Slots, k: usize) -> bool
     (s >> k) % 2 == 1
 }
 
-// 1 for a slot of the mask, else 0.
+// 1 for a slot of the mask, else 0: a number, since callers add and multiply it.
 pub fn bit_at(s: Slots, k: usize) -> u8
     requires { k < most_slots }
     ensures { result ≡ bit s k }
@@ -76,18 +87,11 @@ pub fn bit_at(s: Slots, k: usize) -> u8
     u8::from(is_in(s, k))
 }
 
-// The mask's first eight slots, as a byte.
-pub fn first_eight(s: Slots) -> u64
-    ensures { result ≡ s % 256 }
+// The mask's slots eight at a time: byte i has slots 8 i to 8 i + 7.
+pub fn bytes(s: Slots) -> [u8; Season::SLOTS / 8]
+    ensures { result ≡ list_to (λ i. s / 2 ^ (8 * i) % 256) 8 }
 {
-    s % 256
-}
-
-// The mask from its ninth slot on, moved down to the first.
-pub fn past_eight(s: Slots) -> Slots
-    ensures { result ≡ s / 2 ^ 8 }
-{
-    s >> 8
+    s.to_le_bytes()
 }
 
 // The mask of one slot.
@@ -136,14 +140,6 @@ pub fn common(m: Slots, n: Slots) -> Slots
     m & n
 }
 
-// The first slot of a mask that has one.
-pub fn first(m: Slots) -> usize
-    requires { 0 < m }
-    ensures { First m result }
-{
-    m.trailing_zeros() as usize
-}
-
 // The mask's slots among the first p.
 pub fn front(m: Slots, p: usize) -> Slots
     requires { p ≤ most_slots }
@@ -170,60 +166,22 @@ pub fn count_in(m: Slots, s: Slots) -> u32
     (m & s).count_ones()
 }
 
-// The slots of the breaks of a side, whose games are some of all.
-fn break_mask(side: Slots, all: Slots) -> Slots
-    requires { Within side all }
-    ensures { Breaks most_slots side all result }
-{
-    side & (!all).wrapping_add(side << 1)
-}
-
-// The breaks of home games and those of away games in the slots of s. No slot has both, so one count is enough.
-pub fn breaks_of(home: Slots, away: Slots, all: Slots, s: Slots) -> u32
-    requires { Within home all × Within away all × Apart home away }
-    ensures { result ≡ over most_slots s (λ k. only (is_break home all k) 1 + only (is_break away all k) 1) }
-{
-    count_in(union(break_mask(home, all), break_mask(away, all)), s)
-}
-
-// The first slots of the runs of away games: those of away games that are no break.
-pub fn trip_starts(away: Slots, home: Slots) -> Slots
-    ensures { Marks most_slots (starts_trip (has away) (has home)) result }
-{
-    away & !break_mask(away, union(away, home))
-}
-
-// The slots of the run of away games that starts in slot a: up to the next home game. The home games, read as a number, less slot a: this borrows
-// from the next home game, so the slots from a up to it come in, and no others.
-pub fn trip_from(away: Slots, home: Slots, a: usize) -> Slots
-    requires { a < most_slots }
-    ensures { Marks most_slots (on_trip (has away) (has home) a) result }
-{
-    away & home.wrapping_sub(slot(a)) & !home
-}
-
-// How many slots fewer than w lie between two games that have gap slots between them.
-fn too_close(w: u8, gap: u32) -> u32
-    ensures { (result ≡ w - gap) × (result ≤ 255) }
-{
-    u32::from(w).saturating_sub(gap)
-}
-
-// How many slots fewer than w lie between a game of the mask and the one before it, summed. The loop goes from one set bit to the next, and counts
-// no index.
+// How many slots fewer than w lie between a game of the mask and the one before it, summed.
 pub fn closeness(v: Slots, w: u8) -> u32
     ensures { result ≡ sum_to (too_close (has v) w) most_slots }
 {
-    if v == 0 {
+    let gap = 1 + usize::from(w);
+    let mut slots = slots_in(v);
+    let Some(first) = slots.next() else {
         return 0;
+    };
+    // from this slot on a game is far enough from the one before it
+    let mut far = first + gap;
+    let mut c = 0;
+    for k in slots {
+        c += far.saturating_sub(k);
+        far = k + gap;
     }
-    let first = v.trailing_zeros();
-    let mut c: u32 = 0;
-    let mut rest = (v >> first) >> 1;
-    while rest != 0 {
-        let z = rest.trailing_zeros();
-        c += too_close(w, z);
-        rest = (rest >> z) >> 1;
-    }
-    c
+    // a cast, since u32 has no From<usize>
+    c as u32
 }

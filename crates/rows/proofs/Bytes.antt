@@ -56,20 +56,20 @@ abbrev pub Counts : ℕ → ℕ → ℕ → Type 0
 Counts v k w = w ≡ packed (λ j. up_to v (k + j)) 8
 
 module _ (v k : ℕ) where
-  on : {rest q : ℕ} → rest ≡ v / 2 ^ k → q ≡ sum_to (bit v) k → (j : ℕ) → j < 8 → q + up_to (rest % 256) j ≡ up_to v (k + j)
-  on {rest} er eq j lj =
-      let e : up_to (rest % 256) j ≡ sum_to (λ d. bit v (k + d)) (suc j) =
-      sum-ext (suc j) (λ d ld. mod-bit 8 d rest (omega arith) ∙ ap (λ (r : ℕ). bit r d) er ∙ shift-bit v k d) in
+  on : {byte q : ℕ} → byte ≡ v / 2 ^ k % 256 → q ≡ sum_to (bit v) k → (j : ℕ) → j < 8 → q + up_to byte j ≡ up_to v (k + j)
+  on {byte} eb eq j lj =
+      let e : up_to byte j ≡ sum_to (λ d. bit v (k + d)) (suc j) =
+      ap (λ (b : ℕ). up_to b j) eb ∙ sum-ext (suc j) (λ d ld. mod-bit 8 d (v / 2 ^ k) (omega arith) ∙ shift-bit v k d) in
       let s : up_to v (k + j) ≡ sum_to (bit v) k + sum_to (λ d. bit v (k + d)) (suc j) =
       ap (sum_to (bit v)) (sym (add-suc k j)) ∙ sum-split (bit v) k (suc j) in
       omega arith
 
   -- the word of the next byte's own counts, and the count before it in each byte
-  pub counted : {rest q r : ℕ} → rest ≡ v / 2 ^ k → q ≡ sum_to (bit v) k → r ≡ packed (up_to (rest % 256)) 8
+  pub counted : {byte q r : ℕ} → byte ≡ v / 2 ^ k % 256 → q ≡ sum_to (bit v) k → r ≡ packed (up_to byte) 8
       → Counts v k (r + q * 0x0101010101010101)
   unfolding packed
-  counted {rest} {q} er eq e =
-      ap (λ (r : ℕ). r + q * 0x0101010101010101) e ∙ packed_more (up_to (rest % 256)) (λ j. up_to v (k + j)) q 8 (on er eq)
+  counted {byte} {q} eb eq e =
+      ap (λ (r : ℕ). r + q * 0x0101010101010101) e ∙ packed_more (up_to byte) (λ j. up_to v (k + j)) q 8 (on eb eq)
 
   module _ {w : ℕ} (l : k + 8 ≤ most_slots) (e : Counts v k w) where
     small : Bytes (λ j. up_to v (k + j)) 8

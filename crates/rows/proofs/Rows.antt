@@ -1,14 +1,15 @@
 -- Rows laid for masks, and that what is read off them are the definitions. Assumes nothing.
-use mathlib.Core.Path.{◌≡◌, refl, sym, ap, ap₂, ◌∙◌}
+use mathlib.Core.Path.{◌≡◌, refl, sym, subst, ap, ap₂, ◌∙◌}
 use mathlib.Core.Bool.{Bool, true, false}
 use mathlib.Core.List.{List, [], ◌∷◌, ◌++◌, append_assoc, append-nil}
 use Prim.Native.Nat.{ℕ, zero, suc, ◌+◌, ◌-◌, ◌*◌, ◌^◌, ◌<◌, ◌≤◌, min, max}
 use native.Mathlib.Omega.{arith}
-use native.Mathlib.Numerals.{add-one}
 use native.Mathlib.Nat.{add-zero, zero-add, add-suc}
 use lib.Dec.{eqb}
-use lib.ListN.{get_or, set, length, take}
-use Rattle.std.proofs.lemmas.List.{take_more_set}
+use lib.ListN.{get_or, length, length-append}
+use lib.Seq.{ext_get_or}
+use denote.Param.Members.{Mut, Called}
+use Rattle.std.specs.Array.{IsFromFnResultFrom, IsFromFnResult}
 use Rattle.std.specs.List.{fold, zip}
 use Rattle.std.proofs.lemmas.Slice.Zip.{length-zip, get_or-zip}
 use Rattle.robinx.specs.Season.{most_slots}
@@ -26,11 +27,27 @@ use Rattle.masks.proofs.Width.{worst-stop}
 pub list-holds : (f : ℕ → ℕ) (n : ℕ) → Holds (list_to f n) f n
 list-holds f n k l = ap (λ (r : List ℕ). get_or r k 0) (sym (append-nil (list_to f n))) ∙ list_at f n k [] l
 
--- one place more is written
-pub list-more : (row : List ℕ) (f : ℕ → ℕ) (k : ℕ) {v : ℕ} → k < length row → take k row ≡ list_to f k → v ≡ f k
-    → take (k + 1) (set row k v) ≡ list_to f (k + 1)
+length-list : (f : ℕ → ℕ) (n : ℕ) → length (list_to f n) ≡ n
 unfolding cat_to
-list-more row f k {v} l p e = take_more_set row k v l ∙ rw (p, e, add-one) refl
+length-list f zero = refl
+length-list f (suc n) = omega (arith, length-append (list_to f n) (f n ∷ []), length-list f n)
+
+-- what `from_fn` makes of a closure that stays as it is and gives h of each number
+module _ {F : Type 0} (g : Mut F (ℕ × Unit {0}) ℕ) (f : F) (h : ℕ → ℕ)
+    (gives : (i y : ℕ) (q : F) → Called g f (i, tt) y q → (q ≡ f) × (y ≡ h i)) where
+  made-from : (row : List ℕ) (i n : ℕ) → IsFromFnResultFrom g f row i n → (k : ℕ) → k < n → get_or row (i + k) 0 ≡ h (i + k)
+  made-from row i zero w k l = absurd (omega arith)
+  made-from row i (suc n) (q, y, at, called, w) zero l = rw add-zero (at.1 0 ∙ (gives i y q called).1)
+  made-from row i (suc n) (q, y, at, called, w) (suc k) l =
+      let next = subst (λ (p : F). IsFromFnResultFrom g p row (i + 1) n) (gives i y q called).0 w in
+      let e : i + suc k ≡ i + 1 + k = omega arith in
+      rw e (made-from row (i + 1) n next k (omega arith))
+
+  pub made : (row : List ℕ) (n : ℕ) → IsFromFnResult g f row n → row ≡ list_to h n
+  made row n w =
+      ext_get_or 0 row (list_to h n) (w.long ∙ sym (length-list h n)) (λ k l.
+      let ln : k < n = omega (arith, w.long) in
+      rw zero-add at (made-from row 0 n w.each k ln) ∙ sym (list-holds h n k ln))
 
 -- it goes on from place k with another that is written out
 pub list-join : (f g : ℕ → ℕ) (k n : ℕ) → ((j : ℕ) → j < n → g j ≡ f (k + j)) → list_to f k ++ list_to g n ≡ list_to f (k + n)

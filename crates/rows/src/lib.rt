@@ -6,30 +6,27 @@ ghost use Rattle.std.specs.Prelude.{◌≡◌, ◌+◌, ◌-◌, ◌<◌, ◌≤
 ghost use Rattle.robinx.specs.Season.{most_slots};
 ghost use Rattle.robinx.specs.Sums.{list_to};
 ghost use Rattle.robinx.specs.Groups.{bit};
-ghost use Rattle.robinx.specs.Deviations.{outside};
 ghost use Rattle.rows.specs.Rows.{marked, up_to, packed, farthest_to, runs_to, off_in_runs};
 
+use robinx::range::CountRange;
 use robinx::{Season, Slots};
 
 // A row has a place for each slot.
-pub type Row = [u8; Season::SLOTS];
+pub type SlotRow = [u8; Season::SLOTS];
 
 // The row of the mask's marks: 255 for each of its slots, 0 for the others.
-pub fn spread(s: Slots, row: &mut Row)
-    ensures { row.new ≡ list_to (marked s) most_slots }
+pub fn spread(s: Slots) -> SlotRow
+    ensures { result ≡ list_to (marked s) most_slots }
 {
-    for (k, place) in row.iter_mut().enumerate() {
-        *place = masks::bit_at(s, k) * 255;
-    }
+    std::array::from_fn(|k| masks::bit_at(s, k) * 255)
 }
 
 // The running counts of a byte's slots, a byte for each.
-fn eight(b: u64) -> u64
-    requires { b < 256 }
-    ensures { result ≡ packed (up_to b) 8 }
+fn eight(byte: u8) -> u64
+    ensures { result ≡ packed (up_to byte) 8 }
 {
     // byte j has bit j at its own place, then as 0 or 1; then each byte is the sum of the two, four and eight bytes up to it
-    let own = (b * 0x0101010101010101) & 0x8040201008040201;
+    let own = (u64::from(byte) * 0x0101010101010101) & 0x8040201008040201;
     let one = ((own + 0x00406070787c7e7f) >> 7) & 0x0101010101010101;
     let two = one + (one << 8);
     let four = two + (two << 16);
@@ -41,6 +38,7 @@ fn copy_eight(bytes: [u8; 8], part: &mut [u8])
     requires { length part.old ≡ 8 }
     ensures { part.new ≡ bytes }
 {
+    // by index: of what a zip of `iter_mut` wrote, the library says nothing once the loop is over
     for (j, place) in part.iter_mut().enumerate() {
         *place = bytes[j];
     }
@@ -52,51 +50,41 @@ pub fn lay(v: Slots, row: &mut [u8])
     ensures { row.new ≡ list_to (up_to v) most_slots }
 {
     let mut before: u64 = 0;
-    let mut rest = v;
-    // by the number of the eight: of chunks that are written through, the library says nothing once the loop is over
-    for byte in 0..Season::SLOTS / 8 {
-        let counts = eight(masks::first_eight(rest)) + before * 0x0101010101010101;
-        copy_eight(counts.to_le_bytes(), &mut row[8 * byte..8 * byte + 8]);
+    for (at, &byte) in masks::bytes(v).iter().enumerate() {
+        let counts = eight(byte) + before * 0x0101010101010101;
+        // by index: of chunks that are written through, the library says nothing once the loop is over
+        copy_eight(counts.to_le_bytes(), &mut row[8 * at..8 * at + 8]);
         before = counts >> 56;
-        rest = masks::past_eight(rest);
     }
 }
 
 // The largest distance of two rows at the slots that the row of marks has. The smaller of mark and distance takes no branch.
-pub fn farthest(a: &Row, b: &Row, marks: &Row) -> u8
+pub fn farthest(a: &SlotRow, b: &SlotRow, marks: &SlotRow) -> u8
     ensures { result ≡ farthest_to marks.now (slice_index a.now) (slice_index b.now) most_slots }
 {
     a.iter().zip(b).zip(marks).fold(0, |far, ((&x, &y), &mark)| far.max(mark.min(x.abs_diff(y))))
 }
 
-// In u8, though crate `opponents` has it in u32 for counts that need it: by that one, each count widened, a set is 2 to 9 % dearer. One function
-// generic in the two would need a trait of its own, since saturating_sub is no method of one of std's.
-fn outside(low: u8, high: u8, count: u8) -> u8
-    ensures { result ≡ outside low high count }
-{
-    low.saturating_sub(count).max(count.saturating_sub(high))
-}
-
-// How far the counts of the first n runs of w slots are outside low .. high, summed. Place k of the row has the count before slot k.
-pub fn runs(row: &[u8], w: usize, low: u8, high: u8, n: usize) -> u32
+// How far the counts of the first n runs of w slots are outside the range, summed. Place k of the row has the count before slot k.
+pub fn runs(row: &[u8], w: usize, range: CountRange, n: usize) -> u32
     requires long { most_slots + 1 ≤ length row.now }
     requires whole { n ≤ most_slots + 1 - w }
-    ensures { result ≡ runs_to row.now w low high n }
+    ensures { result ≡ runs_to row.now w range.low range.high n }
 {
     let mut off: u32 = 0;
-    // by index: a zip of the row and its part from w on takes a fifth more instructions
+    // by index: a zip of the row and its part from w on takes a fifth more instructions; no sum: std's law of a map wants a closure for any k
     for k in 0..n {
-        off += u32::from(outside(low, high, row[k + w].saturating_sub(row[k])));
+        off += u32::from(range.outside_byte(row[k + w].saturating_sub(row[k])));
     }
     off
 }
 
-// The same of the mask's slots: how far their counts in the first n runs of w slots are outside low .. high, summed.
-pub fn mask_runs(v: Slots, w: usize, low: u8, high: u8, n: usize) -> u32
+// The same of the mask's slots: how far their counts in the first n runs of w slots are outside the range, summed.
+pub fn mask_runs(v: Slots, w: usize, range: CountRange, n: usize) -> u32
     requires { n ≤ most_slots + 1 - w }
-    ensures { result ≡ off_in_runs (bit v) w low high n }
+    ensures { result ≡ off_in_runs (bit v) w range.low range.high n }
 {
     let mut row = [0; Season::SLOTS + 1];
     lay(v, &mut row[1..]);
-    runs(&row, w, low, high, n)
+    runs(&row, w, range, n)
 }

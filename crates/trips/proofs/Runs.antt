@@ -15,8 +15,7 @@ use Rattle.robinx.specs.Deviations.{over, outside}
 use Rattle.robinx.proofs.Sums.{only-bound, sum_bound}
 use Rattle.robinx.proofs.Ext.{sum-ext, last_was-ext}
 use Rattle.robinx.proofs.Bits.{and-has}
-use Rattle.masks.specs.Masks.{Marks, without, First}
-use Rattle.masks.proofs.OneFewer.{over-one-fewer}
+use Rattle.masks.specs.Masks.{Marks}
 use Rattle.trips.specs.TripFigures.{ends_in, TripAt}
 
 -- by the mask of the run
@@ -53,13 +52,10 @@ module _ (away home S starts : ℕ) (m : Marks most_slots (starts_trip (has away
       ap (λ (b : Bool). only b (adds away home S f a)) (and-has starts S a ∙ ap (λ (b : Bool). b && has S a) (m a l))
       ∙ sym (only-both (starts_trip (has away) (has home) a && has S a) _ _ _))
 
--- how many slots a mask has, and that without one of them it has fewer
+-- how many slots a mask has
 pub count-le : (m : ℕ) → over most_slots m (λ k. 1) ≤ most_slots
 unfolding over
 count-le m = omega (arith, sum_bound {f = λ k. only (has m k) 1} most_slots 1 (λ k l. only-bound (has m k) (omega arith)))
-
-pub fewer : (m a : ℕ) → First m a → over most_slots (without m a) (λ k. 1) < over most_slots m (λ k. 1)
-fewer m a first = omega (arith, over-one-fewer most_slots m a (λ k. 1) first.within first.found)
 
 -- a count of a trip's games is little, and so is how far it is outside its range
 pub little : (kmin kmax wanted trip r : ℕ) → kmin ≤ 255 → r ≡ outside kmin kmax (over most_slots trip (bit wanted))

@@ -14,8 +14,9 @@ use Rattle.robinx.specs.Deviations.{over, trips, trip_games}
 use Rattle.robinx.proofs.Bits.{front-has}
 use Rattle.robinx.proofs.SetBits.{none-past}
 use Rattle.robinx.proofs.Trips.{along_trip-ext, along_trip-stop, over_trips-ext, over_trips-stop}
-use Rattle.masks.specs.Masks.{Marks, without, First}
-use Rattle.masks.proofs.OneFewer.{over_none, over-one-fewer}
+use Rattle.bits.specs.SetBits.{Lowest}
+use Rattle.bits.proofs.Figures.{over-none, over-lowest}
+use Rattle.masks.specs.Masks.{Marks}
 use Rattle.tables.specs.Tables.{x_of}
 use Rattle.opponents.specs.Figures.{of_check}
 use Rattle.opponents.specs.Games.{MaskOf}
@@ -24,7 +25,7 @@ use Rattle.opponents.proofs.Plays.{home-mask, away-mask, plays-mask}
 use Rattle.trips.specs.TripFigures.{RunOf, GivesTrips, TripsFigure}
 use Rattle.trips.proofs.Runs.{along, adds, all_runs, count-le}
 
--- Before each turn of the loop: v is little, and with what the runs from the slots of rest add it is the whole sum.
+-- Before each turn of the walk: v is little, and with what the runs from the slots of rest add it is the whole sum.
 pub record Summed (away home : ℕ) (k : Check) (t : ℕ) (post : ℕ → ℕ → Type 0) (rest v : ℕ) : Type 0 where
   pub small : most_slots * v + (2 ^ 32 - 1) * over most_slots rest (λ i. 1) ≤ most_slots * (2 ^ 32 - 1)
   pub values : (f : ℕ → ℕ) → GivesTrips k t post f
@@ -84,20 +85,13 @@ module _ (k : Check) (t : ℕ) (lt : t < k.sizes.teams) where
     }
 
 module _ {away home : ℕ} {k : Check} {t : ℕ} {post : ℕ → ℕ → Type 0} {rest v : ℕ} (w : Summed away home k t post rest v) where
-  module _ {a : ℕ} (first : First rest a) (r : ℕ) (l : most_slots * r < 2 ^ 32) where
-    one-fewer : (f : ℕ → ℕ) → over most_slots rest f ≡ f a + over most_slots (without rest a) f
-    one-fewer f = over-one-fewer most_slots rest a f first.within first.found
-
-    pub room : v + r < 2 ^ 32
-    room = omega (arith, l, w.small, one-fewer (λ i. 1))
-
-    -- with the run from a, which adds r
-    pub one-more : ((f : ℕ → ℕ) → GivesTrips k t post f → r ≡ adds away home (slots_of k.constraint) f a)
-        → Summed away home k t post (without rest a) (v + r)
-    one-more is = record {
-      small = omega (arith, l, w.small, one-fewer (λ i. 1));
-      values = λ f g. omega (arith, is f g, w.values f g, one-fewer (adds away home (slots_of k.constraint) f));
-    }
+  -- with the run from a, which adds r
+  pub one-more : {a left : ℕ} → Lowest rest a left → (r : ℕ) → most_slots * r < 2 ^ 32
+      → ((f : ℕ → ℕ) → GivesTrips k t post f → r ≡ adds away home (slots_of k.constraint) f a) → Summed away home k t post left (v + r)
+  one-more l r few is = record {
+    small = omega (arith, few, w.small, over-lowest l most_slots l.room (λ i. 1));
+    values = λ f g. omega (arith, is f g, w.values f g, over-lowest l most_slots l.room (adds away home (slots_of k.constraint) f));
+  }
 
   pub all-summed : rest ≡ 0 → TripsFigure k t post v
-  all-summed e f g = omega (arith, rw e at (w.values f g), over_none most_slots (adds away home (slots_of k.constraint) f))
+  all-summed e f g = omega (arith, rw e at (w.values f g), over-none most_slots (adds away home (slots_of k.constraint) f))

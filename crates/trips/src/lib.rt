@@ -13,9 +13,10 @@ ghost use Rattle.opponents.specs.Figures.{of_check, HasRoom};
 ghost use Rattle.trips.specs.TripFigures.{TripAt, TripsFigure, off_trips, missing_trips};
 
 use groups::fill::fill_each;
-use masks::{common, count_in, first, front, is_some, last_in, trip_from, trip_starts, without};
+use masks::pattern::Pattern;
+use masks::{common, count_in, front, last_in, slots_in};
 use opponents::check::Check;
-use opponents::measure::{Sides, outside};
+use opponents::measure::Sides;
 use robinx::Slots;
 
 // The run has two slots or more, and its last one is in s.
@@ -26,36 +27,30 @@ fn ends_in(run: Slots, s: Slots) -> bool
 }
 
 // The slots of the run of away games from a slot, where it is a trip that ends in s.
-fn trip_at(away: Slots, home: Slots, s: Slots, a: usize) -> Option<Slots>
+fn trip_at(pattern: Pattern, s: Slots, a: usize) -> Option<Slots>
     requires { a < most_slots }
-    ensures { TripAt away home s a result }
+    ensures { TripAt pattern.away pattern.home s a result }
 {
-    let run = trip_from(away, home, a);
+    let run = pattern.trip_from(a);
     ends_in(run, s).then_some(run)
 }
 
 // The sum over a team's trips of what each one adds by its slots, which is so little that no sum of it is too large.
-#[tactic(auto, using(crate::proofs::Runs::fewer))]
 fn sum_trips<F: Fn(Slots) -> u32>(check: &Check, t: usize, added: F) -> u32
     requires team { t < check.now.sizes.teams }
     requires callable { F.IsAlwaysCallable added }
     requires small { (trip r : ℕ) → F.post added trip r → most_slots * r < 2 ^ 32 }
     ensures { TripsFigure check.now t (F.post added) result }
 {
-    let away = front(check.tables.away[t], check.sizes.slots);
-    let home = check.tables.home[t];
+    let pattern = Pattern {
+        home: check.tables.home[t],
+        away: front(check.tables.away[t], check.sizes.slots),
+    };
     let s = check.constraint.s;
-    let mut v: u32 = 0;
-    let mut rest = common(trip_starts(away, home), s);
-    // from one set bit to the next, with no index: two lines, where an iterator over a mask's slots would be a type with laws
-    while is_some(rest) {
-        let a = first(rest);
-        rest = without(rest, a);
-        if let Some(trip) = trip_at(away, home, s, a) {
-            v += added(trip);
-        }
-    }
-    v
+    slots_in(common(pattern.trip_starts(), s))
+        .filter_map(|a| trip_at(pattern, s, a))
+        .map(added)
+        .sum()
 }
 
 // How far a team's games against T2 on each of its trips are outside kmin .. kmax, summed.
@@ -65,7 +60,7 @@ fn off_trips(check: &Check, t: usize) -> u32
 {
     let c = check.constraint;
     let wanted = check.against(Sides::Away, c.t2, t);
-    let off = |trip| outside(c.kmin, c.kmax, count_in(wanted, trip));
+    let off = |trip| c.range().outside(count_in(wanted, trip));
     sum_trips(check, t, off)
 }
 
@@ -78,6 +73,7 @@ fn missing_trips(check: &Check, t: usize) -> u32
 }
 
 // The deviations of CA5.
+#[tactic(auto, using(opponents::proofs::Checkable::member_below))]
 pub fn fill_ca5(check: &Check, out: &mut [u32])
     requires { HasRoom check.now out.old × (kind_of check.now.constraint.kind ≡ Ca5) }
     ensures { out.new ≡ of_check dev_ca5 check.now }
@@ -86,6 +82,7 @@ pub fn fill_ca5(check: &Check, out: &mut [u32])
 }
 
 // The deviations of BR4.
+#[tactic(auto, using(opponents::proofs::Checkable::member_below))]
 pub fn fill_br4(check: &Check, out: &mut [u32])
     requires { HasRoom check.now out.old × (kind_of check.now.constraint.kind ≡ Br4) }
     ensures { out.new ≡ of_check dev_br4 check.now }

@@ -1,20 +1,18 @@
--- Before each turn the sum is that of the slots up to the last game, and the rest is the mask from there on.
-use Rattle.std.proofs.Common.{div-one, arith, rules}
-use Rattle.robinx.specs.Sums.{sum_to}
-use Rattle.masks.proofs.GapWalk.{walked, summed-first, summed-next, summed-all}
+-- Before each turn the sum is that of the games up to the last one passed, and the others are left.
+use Rattle.std.proofs.Common.{rules}
+use Rattle.masks.proofs.GapWalk.{closeness-none, summed-first, summed-next, summed-all}
 use Rattle.masks.proofs.closeness.Goals as goal
 
-pub returns-then-v-eq0 : goal.returns-then-v-eq0
-unfolding sum_to
-returns-then-v-eq0 c = walked c.args.v 0 c.args.w (search rules) (omega (arith, div-one c.args.v))
+pub returns-in_default : goal.returns-in_default
+returns-in_default c = closeness-none c.args.v c.args.w (rw (← c.slots_in-slots.ensures) c.in_default.ensures.steps.0)
 
-pub loop-rest-init : goal.loop-rest-init
-loop-rest-init c = summed-first c.args.v c.args.w (search rules) c.if-v-eq0.false
+pub loop-k-init : goal.loop-k-init
+loop-k-init c =
+    rw (c.into_iter-k-iterator.ensures.into_iter_gives, c.from-gap.ensures)
+    (summed-first (rw c.slots_in-slots.ensures at c.in-Some.ensures.steps))
 
-pub loop-rest-preserved : goal.loop-rest-preserved
-loop-rest-preserved c =
-    let a = c.args in
-    summed-next a.v a.w (search rules) c.loop-rest.invariant c.loop-rest-test.true c.too_close-c.ensures.0 c.too_close-c.ensures.1
+pub loop-k-preserved : goal.loop-k-preserved
+loop-k-preserved c = rw (c.saturating_sub-c.ensures, c.from-gap.ensures) (summed-next c.loop-k.invariant c.in-Some-k.ensures.steps (search rules))
 
 pub returns : goal.returns
-returns c = summed-all c.args.v c.args.w (search rules) c.loop-rest.invariant (search rules)
+returns c = summed-all c.loop-k.invariant c.in-None.ensures.steps.0

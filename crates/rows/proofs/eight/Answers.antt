@@ -5,13 +5,14 @@ use Prim.Native.Nat.{ℕ, ◌+◌, ◌*◌, ◌/◌, ◌%◌, ◌^◌, ◌<◌}
 use native.Mathlib.Omega.{arith}
 use lib.Bits.{bit_and, and_le_r}
 use lib.Dec.{eqb, ltb}
+use borrow.Author.Rules.{rules}
 use borrow.Author.Tests.{eqb-true, ltb-true, not-false}
 use Rattle.std.proofs.lemmas.Bool.{and_parts}
 use Rattle.robinx.specs.Sums.{sum_to, any_to}
 use Rattle.robinx.proofs.Sums.{any_none}
 use Rattle.rows.specs.Rows.{up_to, packed}
 use Rattle.rows.proofs.eight.Goals as goal
-use Rattle.rows.proofs.eight.Goals.{Start}
+use Rattle.rows.proofs.eight.Goals.{After-from}
 
 -- a word and itself, k bits up
 abbrev summed : ℕ → ℕ → ℕ
@@ -29,15 +30,15 @@ none-wrong : any_to (λ b. not (right b)) 256 ≡ false
 unfolding any_to right packed sum_to
 none-wrong = refl
 
-whole : (c : Start) → (word c.args.b < 2 ^ 64) × (word c.args.b ≡ packed (up_to c.args.b) 8)
+whole : (c : After-from) → (word c.from.result < 2 ^ 64) × (word c.from.result ≡ packed (up_to c.args.byte) 8)
 unfolding right
 whole c =
-    let b = c.args.b in
-    let r = and_parts _ _ (not-false _ (any_none (λ b. not (right b)) 256 none-wrong b c.requires)) in
-    (ltb-true (word b) (2 ^ 64) r.0, eqb-true (word b) (packed (up_to b) 8) r.1)
+    let b = c.args.byte in
+    let r = and_parts _ _ (not-false _ (any_none (λ b. not (right b)) 256 none-wrong b (search rules))) in
+    rw c.from.ensures (ltb-true (word b) (2 ^ 64) r.0, eqb-true (word b) (packed (up_to b) 8) r.1)
 
 pub overflow_add-one : goal.overflow_add-one
-overflow_add-one c = omega (arith, and_le_r (c.args.b * 0x0101010101010101) 0x8040201008040201)
+overflow_add-one c = omega (arith, and_le_r (c.from.result * 0x0101010101010101) 0x8040201008040201)
 
 pub overflow_add-two : goal.overflow_add-two
 overflow_add-two c = omega (arith, (whole c).0)

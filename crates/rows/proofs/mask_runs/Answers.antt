@@ -11,5 +11,5 @@ returns c =
     let a = c.args in
     let row = ap (λ (r : List ℕ). 0 ∷ r) (append-nil c.lay.new.row ∙ c.lay.ensures) in
     c.runs.ensures
-    ∙ runs_of _ a.v a.w a.low a.high a.n c.requires
+    ∙ runs_of _ a.v a.w a.range.low a.range.high a.n c.requires
     (counts-before a.v row (list-holds (up_to a.v) most_slots))

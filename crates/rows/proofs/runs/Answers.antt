@@ -12,4 +12,5 @@ loop-k-init c = (search rules, refl)
 
 pub loop-k-preserved : goal.loop-k-preserved
 unfolding runs_to sum_to
-loop-k-preserved c = (search rules, rw (add-one, ← c.loop-k.invariant.1, ← c.saturating_sub.ensures, ← c.outside.ensures, ← c.from-off.ensures) refl)
+loop-k-preserved c =
+    (search rules, rw (add-one, ← c.loop-k.invariant.1, ← c.saturating_sub.ensures, ← c.outside_byte.ensures, ← c.from-off.ensures) refl)

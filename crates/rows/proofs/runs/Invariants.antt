@@ -5,4 +5,4 @@ use Rattle.rows.specs.Rows.{runs_to}
 use Rattle.rows.proofs.runs.Given as goal
 
 abbrev pub invariant-loop-k : goal.invariant-loop-k
-invariant-loop-k l = (l.off ≤ 255 * l.k) × (l.off ≡ runs_to l.row l.w l.low l.high l.k)
+invariant-loop-k l = (l.off ≤ 255 * l.k) × (l.off ≡ runs_to l.row l.w l.range.low l.range.high l.k)

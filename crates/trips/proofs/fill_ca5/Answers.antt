@@ -2,15 +2,12 @@
 use Rattle.std.proofs.Common.{rules, refl}
 use Rattle.robinx.specs.Kinds.{form_of}
 use Rattle.robinx.specs.Deviations.{dev_ca5}
-use Rattle.opponents.proofs.Checkable.{limits, member_below, team-places}
+use Rattle.opponents.proofs.Checkable.{limits, team-places}
 use Rattle.trips.proofs.fill_ca5.Goals as goal
 
 pub fill_each-requires-clause-room : goal.fill_each-requires-clause-room
 unfolding form_of
 fill_each-requires-clause-room c = team-places c.args.check.now.checkable _ c.requires.0 c.requires.1 refl
-
-pub fill_each-requires-clause-callable : goal.fill_each-requires-clause-callable
-fill_each-requires-clause-callable c = λ t l h. search (rules, member_below c.args.check.now.checkable t h)
 
 pub returns : goal.returns
 unfolding dev_ca5

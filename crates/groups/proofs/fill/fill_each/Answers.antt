@@ -1,21 +1,15 @@
--- `groups::fill::fill_each` meets its contract: before each turn the figures of the members passed are in. Assumes nothing.
-use Rattle.std.proofs.Common.{rules}
-use Rattle.groups.proofs.Figures.{each-in, each-room, each-next, all-in}
+-- `groups::fill::fill_each` meets its contract: its walk has the members, which are teams. Assumes nothing.
+use Rattle.std.proofs.Common.{arith}
+use Rattle.robinx.specs.Season.{most_teams}
+use Rattle.robinx.proofs.SetBits.{in-below}
 use Rattle.groups.proofs.fill.fill_each.Goals as goal
 
-pub loop-at-init : goal.loop-at-init
-loop-at-init g c = (
-  search rules,
-  search rules,
-  rw (c.into_iter-at-iterator.ensures.into_iter_gives, c.enumerate-at-items.ensures.source, c.enumerate-at-items.ensures.count)
-      (each-in c.of.ensures c.ranges.group.fits c.requires.room),
-)
-
-pub bounds-out-at : goal.bounds-out-at
-bounds-out-at g c = let s = c.in-Some.ensures.steps in rw s.1 (each-room c.loop-at.invariant.2 s.0.2)
-
-pub loop-at-preserved : goal.loop-at-preserved
-loop-at-preserved g c = let s = c.in-Some.ensures.steps in (search rules, search rules, rw (s.1, s.2) (each-next c.loop-at.invariant.2 s.0.2 c.figure.ensures))
+pub fill-requires : goal.fill-requires
+fill-requires g c =
+    rw c.members.ensures (record {
+      room = c.requires.room;
+      callable = λ t l h. c.requires.callable t (in-below c.args.group most_teams c.ranges.group.fits t h) h;
+    })
 
 pub returns : goal.returns
-returns g c = all-in c.loop-at.invariant.2 c.in-None.ensures.steps.0.0
+returns g c n f l = (rw c.members.ensures at c.fill.ensures) n f (omega (arith, l))
