@@ -2,49 +2,42 @@
 
 #![tactic(auto)]
 
-ghost use Rattle.std.specs.Prelude.{◌≡◌, true, false, ◌+◌, ◌*◌, ◌<◌, ◌≤◌, length, get_or, set};
-ghost use Rattle.robinx.specs.Season.{most_teams, most_places};
-ghost use Rattle.robinx.specs.Refusals.{sentence4};
-ghost use Rattle.games.specs.Meetings.{pair_at, refused, of_games};
+ghost use Rattle.std.specs.Prelude.{◌≡◌, ◌∷◌, [], ◌≤◌, length};
+ghost use Rattle.robinx.specs.Season.{most_teams};
+ghost use Rattle.robinx.specs.Refusals.{sentence, sentence4, first_true};
+ghost use Rattle.robinx.specs.RefusalNumbers.{fault_of};
+ghost use Rattle.games.specs.Meetings.{of_games, CountsGame};
 
-use robinx::Season;
+use robinx::{Refusal, Season};
 
-// The place of two teams' meetings, whichever is at home.
-fn pair(i: usize, j: usize) -> usize
-    requires { (i < most_teams) × (j < most_teams) }
-    ensures { (result ≡ pair_at i j) × (result < most_places) }
-{
-    i.min(j) * Season::TEAMS + i.max(j)
-}
+// How often two teams have met: in the row of the lower number, at the higher. For all teams, since there is no heap.
+type Meetings = [[u8; Season::TEAMS]; Season::TEAMS];
 
-// Whether a game cannot be, after the games that are counted. One that can be is counted.
-#[tactic(auto, unfolding(crate::specs::Meetings::refused))]
-fn game_bad(counts: &mut [u8; Season::PLACES], i: usize, j: usize, n: usize) -> bool
+// Counts a game, unless it cannot be after the games that are counted.
+#[tactic(auto, unfolding(crate::specs::Meetings::refused, robinx::specs::Refusals::first_true))]
+fn count_game(meetings: &mut Meetings, i: usize, j: usize, n: usize) -> Result<(), Refusal>
     requires { n ≤ most_teams }
-    ensures { (result ≡ refused counts.old i j n)
-        × (result ≡ false → counts.new ≡ set counts.old (pair_at i j) (get_or counts.old (pair_at i j) 0 + 1)) }
+    ensures { CountsGame i j n meetings.old meetings.new result }
 {
     if n <= i || n <= j || i == j {
-        return true;
+        return Err(Refusal::BadGame);
     }
-    let k = pair(i, j);
-    if Season::MEETINGS <= usize::from(counts[k]) {
-        return true;
+    let met = &mut meetings[i.min(j)][i.max(j)];
+    if Season::MEETINGS <= usize::from(*met) {
+        return Err(Refusal::BadGame);
     }
-    counts[k] += 1;
-    false
+    *met += 1;
+    Ok(())
 }
 
-// Sentence 4, in one pass over the games, whose teams are two lists as in the season's bytes.
-pub fn games_bad(homes: &[u8], aways: &[u8], n: usize) -> bool
+// Sentence 4, in one pass over the games, whose teams are two lists as in the season's bytes: `timetable::games::Games` holds what is tested here.
+pub fn examine(homes: &[u8], aways: &[u8], n: usize) -> Result<(), Refusal>
     requires { (length aways.now ≡ length homes.now) × (n ≤ most_teams) }
-    ensures { result ≡ sentence4 (of_games n homes.now aways.now) }
+    ensures { fault_of result ≡ first_true (sentence 4 (sentence4 (of_games n homes.now aways.now)) ∷ []) }
 {
-    let mut counts = [0u8; Season::PLACES];
+    let mut meetings = [[0; Season::TEAMS]; Season::TEAMS];
     for (&i, &j) in homes.iter().zip(aways) {
-        if game_bad(&mut counts, usize::from(i), usize::from(j), n) {
-            return true;
-        }
+        count_game(&mut meetings, usize::from(i), usize::from(j), n)?;
     }
-    false
+    Ok(())
 }

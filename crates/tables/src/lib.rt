@@ -3,11 +3,13 @@
 
 #![tactic(auto)]
 
-ghost use Rattle.std.specs.Prelude.{◌≡◌, suc, ◌<◌, ◌≤◌, is_ok};
+ghost use Rattle.std.specs.Prelude.{◌≡◌, ◌<◌, ◌≤◌, is_ok};
 ghost use Rattle.robinx.specs.Season.{most_teams, most_slots};
+ghost use Rattle.robinx.specs.Sheet.{byte_of};
 ghost use Rattle.robinx.specs.declared.Refusal.TheVariants.{TeamBusy};
 ghost use Rattle.tables.specs.Tables.{busy, taken_out_of, Tried, Empty};
 
+use robinx::game::Game;
 use robinx::{Refusal, Season, Slots};
 
 // A team would have two games in a slot.
@@ -22,7 +24,8 @@ impl From<Clash> for Refusal {
     }
 }
 
-// The home-away patterns of all teams: the slots in which each plays at home, and those in which it plays away. They travel by value.
+// The home-away patterns of all teams: the slots in which each plays at home, and those in which it plays away. They travel by value, as the
+// customer named it, and so apart from the tables, which no call copies.
 #[derive(Clone, Copy)]
 pub struct Patterns {
     pub home: [Slots; Season::TEAMS],
@@ -34,18 +37,18 @@ pub struct Patterns {
 pub struct Tables {
     pub home: [Slots; Season::TEAMS],
     pub away: [Slots; Season::TEAMS],
-    pub meets: [Slots; Season::PLACES],
+    pub meets: [[Slots; Season::TEAMS]; Season::TEAMS],
 }
 
 impl Tables {
-    // No game is placed.
+    // No game is placed. Tables are made by a call, empty (`Empty`), and lent from there on: a function that made them would copy 8.7 KB.
     pub fn new() -> Self
         ensures { Empty result }
     {
         Self {
             home: [masks::NONE; Season::TEAMS],
             away: [masks::NONE; Season::TEAMS],
-            meets: [masks::NONE; Season::PLACES],
+            meets: [[masks::NONE; Season::TEAMS]; Season::TEAMS],
         }
     }
 
@@ -57,50 +60,39 @@ impl Tables {
         masks::is_in(self.home[t], k) | masks::is_in(self.away[t], k)
     }
 
-    // Puts i at home against j into slot k, or changes nothing where one of them is busy.
-    pub fn place(&mut self, i: usize, j: usize, k: usize) -> Result<(), Clash>
-        requires { (i < most_teams) × (j < most_teams) × (k < most_slots) }
-        ensures { Tried (is_ok result) i j (suc k) self.old self.new }
+    // Puts a game into a slot, or changes nothing where one of its teams is busy or there is no slot.
+    pub fn put(&mut self, game: Game, slot: Option<u8>) -> Result<(), Clash>
+        requires { byte_of slot ≤ most_slots }
+        ensures { Tried (is_ok result) game.home game.away (byte_of slot) self.old self.new }
     {
+        let Some(slot) = slot else {
+            return Ok(());
+        };
+        let i = usize::from(game.home);
+        let j = usize::from(game.away);
+        let k = usize::from(slot);
         if self.busy(i, k) | self.busy(j, k) {
             return Err(Clash);
         }
-        let q = i * Season::TEAMS + j;
         self.home[i] = masks::joined(self.home[i], k);
         self.away[j] = masks::joined(self.away[j], k);
-        self.meets[q] = masks::joined(self.meets[q], k);
+        self.meets[i][j] = masks::joined(self.meets[i][j], k);
         Ok(())
     }
 
-    // Takes i at home against j out of slot k.
-    pub fn lift(&mut self, i: usize, j: usize, k: usize)
-        requires { (i < most_teams) × (j < most_teams) × (k < most_slots) }
-        ensures { self.new ≡ taken_out_of i j (suc k) self.old }
+    // Takes a game out of the slot that it has, if any.
+    pub fn take_out(&mut self, game: Game, slot: Option<u8>)
+        requires { byte_of slot ≤ most_slots }
+        ensures { self.new ≡ taken_out_of game.home game.away (byte_of slot) self.old }
     {
-        let q = i * Season::TEAMS + j;
+        let Some(slot) = slot else {
+            return;
+        };
+        let i = usize::from(game.home);
+        let j = usize::from(game.away);
+        let k = usize::from(slot);
         self.home[i] = masks::without(self.home[i], k);
         self.away[j] = masks::without(self.away[j], k);
-        self.meets[q] = masks::without(self.meets[q], k);
-    }
-
-    // Puts i at home against j into the slot of byte b of a sheet, of which 0 is no slot, or changes nothing where one of them is busy.
-    pub fn put(&mut self, i: u8, j: u8, b: u8) -> Result<(), Clash>
-        requires { (i < most_teams) × (j < most_teams) × (b ≤ most_slots) }
-        ensures { Tried (is_ok result) i j b self.old self.new }
-    {
-        match b.checked_sub(1) {
-            Some(k) => self.place(usize::from(i), usize::from(j), usize::from(k)),
-            None => Ok(()),
-        }
-    }
-
-    // Takes i at home against j out of that slot.
-    pub fn take_out(&mut self, i: u8, j: u8, b: u8)
-        requires { (i < most_teams) × (j < most_teams) × (b ≤ most_slots) }
-        ensures { self.new ≡ taken_out_of i j b self.old }
-    {
-        if let Some(k) = b.checked_sub(1) {
-            self.lift(usize::from(i), usize::from(j), usize::from(k));
-        }
+        self.meets[i][j] = masks::without(self.meets[i][j], k);
     }
 }

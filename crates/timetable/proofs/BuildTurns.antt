@@ -12,28 +12,16 @@ use Rattle.robinx.specs.Sums.{sum_to, any_to, only}
 use Rattle.robinx.specs.Season.{most_teams, most_slots}
 use Rattle.robinx.specs.Timetable.{clash}
 use Rattle.robinx.specs.Refusals.{first_true}
-use Rattle.robinx.specs.declared.Refusal.{Refusal}
 use Rattle.robinx.specs.declared.Refusal.TheVariants.{BadSheet}
 use Rattle.robinx.proofs.Sums.{any_some, any_step}
 use Rattle.tables.specs.declared.Tables.{Tables}
-use Rattle.tables.specs.declared.Clash.{Clash}
 use Rattle.tables.specs.Tables.{Tried}
 use Rattle.tables.specs.Tables.{Empty}
 use Rattle.timetable.specs.OfSheet.{Teams, InRange, Fits, unplaced, above, Builds}
-use Rattle.std.specs.Prelude.{Result, Ok, Err, is_ok}
-use Rattle.std.specs.Result.{result_or}
+use Rattle.std.specs.Prelude.{Ok, Err}
 use Rattle.timetable.proofs.Laws.{in-range-set}
 use Rattle.timetable.proofs.TableSteps.{fits-tried}
 use Rattle.timetable.proofs.FirstGames.{placed_to, none-at, later, all_placed, clash-of-first, fits-none, unplaced-next}
-
--- a try whose error is the refusal of the sheet
-pub try-failed : (r : Result (Unit {0}) Clash) {e : Refusal} → Err e ≡ result_or r (Err BadSheet) → (is_ok r ≡ false) × (e ≡ BadSheet)
-try-failed (Ok x) h = cc
-try-failed (Err c) h = (refl, cc)
-
-pub try-held : (r : Result (Unit {0}) Clash) {x : Unit {0}} → Ok x ≡ result_or r (Err BadSheet) → is_ok r ≡ true
-try-held (Ok x) h = refl
-try-held (Err c) h = cc
 
 -- Before turn g the first g games fit and are in the tables, and those of them that have no slot are counted.
 pub record Begun (p : ℕ) (homes aways sheet : List ℕ) (g : ℕ) (t : Tables) (u : ℕ) : Type 0 where
@@ -71,7 +59,11 @@ module _ {p : ℕ} {homes aways sheet : List ℕ} (sized : length sheet ≡ leng
     -- .. after the last game
     pub ends-whole : g ≡ length homes → Builds p homes aways sheet (Ok u) t
     unfolding first_true
-    ends-whole e = record { number = rw (none, not-true _ (sym (rw all at b.fits.no-clash))); shows = rw all at (b.fits.shows refl); count = rw (← e) b.count }
+    ends-whole e = record {
+      number = rw (none, not-true _ (sym (rw all at b.fits.no-clash)));
+      shows = rw all at (b.fits.shows refl);
+      count = rw (← e) b.count;
+    }
       where
         all : placed_to sheet g ≡ sheet
         all = ap (placed_to sheet) (e ∙ sym sized) ∙ all_placed sheet

@@ -2,40 +2,16 @@
 use mathlib.Core.Path.{◌≡◌, refl, sym, ◌∙◌}
 use mathlib.Core.List.{List}
 use mathlib.Core.Bool.{Bool, true, false, ◌&&◌, ◌||◌, not, or-true, or_assoc}
-use Prim.Native.Nat.{ℕ, zero, suc, ◌-◌, ◌<◌}
+use mathlib.Core.Logic.{⊎_elim}
+use Prim.Native.Nat.{ℕ, suc, ◌-◌, ◌<◌}
 use native.Mathlib.Omega.{arith}
-use native.Mathlib.Decide.{ℕ_discrete}
 use lib.Dec.{eqb, ltb}
 use lib.ListN.{length, get_or}
-use borrow.Author.Tests.{eqb-true, eqb-false, eq-eqb, ne_eqb, not-true, ltb-true, ltb-false}
-use Rattle.std.proofs.lemmas.Bool.{and_parts}
-use Rattle.robinx.specs.Sums.{sum_to, any_to, only}
+use borrow.Author.Tests.{eqb-true, eqb-false, eq-eqb, not-true, ltb-true, ltb-false}
+use Rattle.std.proofs.lemmas.Bool.{and_parts, or_cases}
+use Rattle.std.proofs.lemmas.Bool.Decides.{nat_tests}
 use Rattle.robinx.specs.Timetable.{share_team, collide, clash}
-use Rattle.robinx.proofs.Sums.{any_some, any-is-sum}
-
--- what is found where a sum is not 0, or some test passes
-pub sum-found : (f : ℕ → ℕ) (n : ℕ) → 0 < sum_to f n → (k : ℕ) × (k < n) × (0 < f k)
-unfolding sum_to
-sum-found f zero h = absurd (omega arith)
-sum-found f (suc n) h = go (ℕ_discrete (f n) 0) (sum-found f n)
-  where
-    go : Dec (f n ≡ 0) → (0 < sum_to f n → (k : ℕ) × (k < n) × (0 < f k)) → (k : ℕ) × (k < suc n) × (0 < f k)
-    go (yes e) ih = let s = ih (omega arith) in (s.0, omega arith, s.2)
-    go (no e) ih = (n, omega arith, omega arith)
-
-pub count-found : (p : ℕ → Bool) (n : ℕ) → 0 < sum_to (λ k. only (p k) 1) n → (k : ℕ) × (k < n) × (p k ≡ true)
-count-found p n h = let s = sum-found (λ k. only (p k) 1) n h in (s.0, s.1, some (p s.0) s.2)
-  where
-    some : (b : Bool) → 0 < only b 1 → b ≡ true
-    some true l = refl
-    some false l = absurd (omega arith)
-
-any_found : (p : ℕ → Bool) (n : ℕ) → any_to p n ≡ true → (k : ℕ) × (k < n) × (p k ≡ true)
-any_found p n h = count-found p n (ltb-true 0 _ (sym (any-is-sum p n) ∙ h))
-
-pub or_cases : (a b : Bool) {C : Type 0} → a || b ≡ true → (a ≡ true → C) → (b ≡ true → C) → C
-or_cases true b h f g = f refl
-or_cases false b h f g = g h
+use Rattle.robinx.proofs.Sums.{any_some, some-any}
 
 module _ (homes aways : List ℕ) where
   -- t is one of the teams of game g
@@ -51,9 +27,10 @@ module _ (homes aways : List ℕ) where
   -- what holds of both teams holds of each team of the game
   pub team-cases : (P : ℕ → Type 0) (t g : ℕ) → is_team t g ≡ true → P (get_or homes g 0) → P (get_or aways g 0) → P t
   team-cases P t g e host guest =
-      or_cases (eqb t (get_or homes g 0)) (eqb t (get_or aways g 0)) e
+      ⊎_elim
       (λ h. rw (eqb-true t (get_or homes g 0) h) host)
       (λ h. rw (eqb-true t (get_or aways g 0) h) guest)
+      (or_cases (eqb t (get_or homes g 0)) (eqb t (get_or aways g 0)) e)
 
   -- game g has team t in slot k
   pub record Plays (sheet : List ℕ) (t k g : ℕ) : Type 0 where
@@ -72,19 +49,13 @@ module _ (homes aways : List ℕ) where
     pub second : Plays sheet t k h
 
   share-team : (g h : ℕ) → share_team homes aways g h ≡ is_team (get_or homes g 0) h || is_team (get_or aways g 0) h
-  share-team g h =
-      or_assoc
-      (is_team (get_or homes g 0) h)
-      (eqb (get_or aways g 0) (get_or homes h 0))
-      (eqb (get_or aways g 0) (get_or aways h 0))
+  share-team g h = or_assoc (is_team (get_or homes g 0) h) _ _
 
   module _ (sheet : List ℕ) where
     collides : {t k g h : ℕ} → Plays sheet t k g → Plays sheet t k h → collide homes aways sheet g h ≡ true
     unfolding collide
     collides {t} {k} {g} {h} a b =
-        rw (a.slot, b.slot, ne_eqb (suc k) 0 (λ e. omega arith), eq-eqb (suc k) (suc k) refl, share-team g h)
-        (team-cases (λ s. is_team s h ≡ true → is_team (get_or homes g 0) h || is_team (get_or aways g 0) h ≡ true)
-        t g a.team (λ e. rw e) (λ e. rw (e, or-true)) b.team)
+        grind (arith, nat_tests, a.slot, b.slot, a.team, b.team)
 
     pub is-clash : Clashing sheet → clash homes aways sheet ≡ true
     unfolding clash
@@ -100,8 +71,8 @@ module _ (homes aways : List ℕ) where
     pub clash-is : clash homes aways sheet ≡ true → Clashing sheet
     unfolding clash collide
     clash-is e =
-        let a = any_found _ (length homes) e in
-        let b = any_found _ a.0 a.2 in
+        let a = some-any _ (length homes) e in
+        let b = some-any _ a.0 a.2 in
         let parts = and_parts (not (eqb (get_or sheet a.0 0) 0) && eqb (get_or sheet a.0 0) (get_or sheet b.0 0)) _ b.2 in
         let slots = and_parts (not (eqb (get_or sheet a.0 0) 0)) _ parts.0 in
         let placed = eqb-false (get_or sheet a.0 0) 0 (not-true (eqb (get_or sheet a.0 0) 0) slots.0) in
@@ -117,7 +88,8 @@ module _ (homes aways : List ℕ) where
             → is_team (get_or homes g 0) h || is_team (get_or aways g 0) h ≡ true
             → Clashing sheet
         found g h k low l slot same shared =
-            or_cases (is_team (get_or homes g 0) h) _ shared (with-team (get_or homes g 0) (is-host g)) (with-team (get_or aways g 0) (is-guest g))
+            ⊎_elim (with-team (get_or homes g 0) (is-host g)) (with-team (get_or aways g 0) (is-guest g))
+            (or_cases (is_team (get_or homes g 0) h) _ shared)
           where
             with-team : (t : ℕ) → is_team t g ≡ true → is_team t h ≡ true → Clashing sheet
             with-team t a b = record {

@@ -1,16 +1,15 @@
 -- Tables for the largest number of teams are tables for the n teams of a season: no game has another team. Assumes nothing.
-use mathlib.Core.Path.{◌≡◌, sym, ap, ◌∙◌}
+use mathlib.Core.Path.{◌≡◌, ◌∙◌}
 use mathlib.Core.List.{List}
 use mathlib.Core.Bool.{and-false}
-use Prim.Native.Nat.{ℕ, zero, suc, ◌+◌, ◌<◌, ◌≤◌}
+use Prim.Native.Nat.{ℕ, ◌<◌, ◌≤◌}
 use native.Mathlib.Omega.{arith}
-use native.Mathlib.Decide.{ℕ_discrete}
 use lib.ListN.{length, get_or}
 use borrow.Author.Tests.{ne_eqb}
-use Rattle.robinx.specs.Sums.{sum_to}
 use Rattle.robinx.specs.Season.{most_teams}
 use Rattle.robinx.specs.Timetable.{is_at, meetings}
 use Rattle.robinx.proofs.Sums.{sum-zero}
+use Rattle.robinx.proofs.Stops.{sum-stop}
 use Rattle.tables.specs.declared.Tables.{Tables}
 use Rattle.tables.specs.Tables.{x_of}
 use Rattle.timetable.specs.OfSheet.{Shows, InRange}
@@ -27,16 +26,6 @@ in-range-most range = record {
   sheet-length = range.sheet-length;
   slot-low = range.slot-low;
 }
-
--- terms from n on that are 0
-sum-fewer : (f : ℕ → ℕ) (n m : ℕ) → n ≤ m → ((k : ℕ) → n ≤ k → k < m → f k ≡ 0) → sum_to f m ≡ sum_to f n
-unfolding sum_to
-sum-fewer f n zero l none = let e : n ≡ 0 = omega arith in sym (ap (sum_to f) e)
-sum-fewer f n (suc m) l none = go (ℕ_discrete n (suc m)) (λ p. sum-fewer f n m p (λ k lk uk. none k lk (omega arith)))
-  where
-    go : Dec (n ≡ suc m) → (n ≤ m → sum_to f m ≡ sum_to f n) → sum_to f m + f m ≡ sum_to f n
-    go (yes e) ih = ap (sum_to f) (sym e)
-    go (no e) ih = omega (arith, ih (omega arith), none m (omega arith) (omega arith))
 
 module _ (n : ℕ) (homes aways sheet : List ℕ) (range : InRange n homes aways sheet) where
   -- a team that the season does not have meets nobody
@@ -56,10 +45,10 @@ module _ (n : ℕ) (homes aways sheet : List ℕ) (range : InRange n homes aways
       sized = shows.tied.sized;
       home-row = λ i k li lk.
           shows.tied.home-row i k (all i li) lk
-          ∙ sum-fewer (λ j. x_of t.meets i j k) n most_teams range.teams.few (λ j lj uj. shows.x i j k (all i li) uj lk ∙ no-guest i j k lj);
+          ∙ sum-stop n most_teams range.teams.few (λ j. x_of t.meets i j k) (λ j lj uj. shows.x i j k (all i li) uj lk ∙ no-guest i j k lj);
       away-row = λ j k lj lk.
           shows.tied.away-row j k (all j lj) lk
-          ∙ sum-fewer (λ i. x_of t.meets i j k) n most_teams range.teams.few (λ i li ui. shows.x i j k ui (all j lj) lk ∙ no-host i j k li);
+          ∙ sum-stop n most_teams range.teams.few (λ i. x_of t.meets i j k) (λ i li ui. shows.x i j k ui (all j lj) lk ∙ no-host i j k li);
       once = λ i k li lk. shows.tied.once i k (all i li) lk;
     };
     x = λ i j k li lj lk. shows.x i j k (all i li) (all j lj) lk;

@@ -1,24 +1,23 @@
 -- The sheet whose games from g on have no slot yet, which is what the tables show before turn g of build, and the count of games that
 -- have none. Assumes nothing.
-use mathlib.Core.Path.{◌≡◌, refl, sym, ap, ◌∙◌}
-use mathlib.Core.List.{List}
-use mathlib.Core.Bool.{Bool, true, false, not, and-false}
+use mathlib.Core.Path.{◌≡◌, sym, ap, ◌∙◌}
+use mathlib.Core.List.{List, []}
+use mathlib.Core.Bool.{true, not, and-false}
 use Prim.Native.Nat.{ℕ, zero, suc, ◌+◌, ◌<◌, ◌≤◌}
 use native.Mathlib.Omega.{arith}
-use native.Mathlib.Decide.{ℕ_discrete}
-use lib.Dec.{eqb, ltb, eqb-zero-suc}
-use lib.ListN.{length, get_or, set, replicate, length-set, length-replicate}
+use lib.Dec.{eqb, eqb-zero-suc}
+use lib.ListN.{length, get_or, set, replicate, length-set, length-replicate, get_or-replicate}
 use lib.Seq.{get_or-set_same, get_or-set_other, ext_get_or}
-use borrow.Author.Tests.{ltb-true, ltb-false}
 use Rattle.std.proofs.lemmas.Bool.{false_from_ne_true}
+use Rattle.std.proofs.lemmas.Grind.{common_steps}
 use Rattle.std.proofs.lemmas.Nat.Bits.{bit_at-zero}
 use Rattle.robinx.specs.Sums.{only}
 use Rattle.robinx.specs.Groups.{bit}
-use Rattle.robinx.specs.Season.{most_teams, most_places}
+use Rattle.robinx.specs.Season.{most_teams}
 use Rattle.robinx.specs.Timetable.{is_at, meetings, clash}
 use Rattle.robinx.proofs.Sums.{only-le, sum-zero, sum_step, sum_bound}
 use Rattle.tables.specs.declared.Tables.{Tables}
-use Rattle.tables.specs.Tables.{cell, x_of}
+use Rattle.tables.specs.Tables.{x_of}
 use Rattle.tables.specs.Tables.{Empty}
 use Rattle.timetable.specs.OfSheet.{Fits, unplaced}
 use Rattle.timetable.proofs.Points.{sum-change}
@@ -29,9 +28,10 @@ placed_to sheet zero = replicate (length sheet) 0
 placed_to sheet (suc g) = set (placed_to sheet g) g (get_or sheet g 0)
 
 pub none-at : (n q : ℕ) → get_or {A = ℕ} (replicate n 0) q 0 ≡ 0
-none-at zero q = refl
-none-at (suc n) zero = refl
-none-at (suc n) (suc q) = none-at n q
+none-at n q = grind (arith, common_steps)
+
+none-in-row : (m n i j : ℕ) → get_or {A = ℕ} (get_or (replicate m (replicate {A = ℕ} n 0)) i []) j 0 ≡ 0
+none-in-row m n i j = grind (arith, common_steps)
 
 none-bit-at : (n : ℕ) (l : List ℕ) (q k : ℕ) → l ≡ replicate n 0 → bit (get_or l q 0) k ≡ 0
 none-bit-at n l q k e = ap (λ (z : List ℕ). bit (get_or z q 0) k) e ∙ ap (λ (w : ℕ). bit w k) (none-at n q) ∙ bit_at-zero k
@@ -46,17 +46,13 @@ module _ (sheet : List ℕ) where
   pub later : (g h : ℕ) → g ≤ h → get_or (placed_to sheet g) h 0 ≡ 0
   unfolding placed_to
   later zero h l = none-at (length sheet) h
-  later (suc g) h l = get_or-set_other (placed_to sheet g) g h (get_or sheet g 0) 0 (λ e. omega arith) ∙ later g h (omega arith)
+  later (suc g) h l = grind (arith, common_steps, l, later g h (omega arith))
 
   -- .. and those before
   earlier : (g h : ℕ) → g ≤ length sheet → h < g → get_or (placed_to sheet g) h 0 ≡ get_or sheet h 0
   unfolding placed_to
   earlier zero h low l = absurd (omega arith)
-  earlier (suc g) h low l = go (ℕ_discrete h g) (earlier g h (omega arith))
-    where
-      go : Dec (h ≡ g) → (h < g → get_or (placed_to sheet g) h 0 ≡ get_or sheet h 0) → get_or (set (placed_to sheet g) g (get_or sheet g 0)) h 0 ≡ get_or sheet h 0
-      go (yes e) ih = rw (e, get_or-set_same (placed_to sheet g) g (get_or sheet g 0) 0 (omega (arith, placed-length g)))
-      go (no e) ih = get_or-set_other (placed_to sheet g) g h (get_or sheet g 0) 0 e ∙ ih (omega arith)
+  earlier (suc g) h low l = grind (arith, common_steps, placed-length g, low, l, earlier g h (omega arith))
 
   pub all_placed : placed_to sheet (length sheet) ≡ sheet
   all_placed =
@@ -64,27 +60,31 @@ module _ (sheet : List ℕ) where
       (λ h l. earlier (length sheet) h (omega arith) (omega (arith, placed-length (length sheet))))
 
   -- a clash of the first games is one of the sheet
-  pub clash-of-first : (homes aways : List ℕ) (g : ℕ) → g ≤ length sheet → clash homes aways (placed_to sheet g) ≡ true → clash homes aways sheet ≡ true
+  pub clash-of-first : (homes aways : List ℕ) (g : ℕ) → g ≤ length sheet → clash homes aways (placed_to sheet g) ≡ true
+      → clash homes aways sheet ≡ true
   clash-of-first homes aways g low e =
       let c = clash-is homes aways (placed_to sheet g) e in
-      clashing-kept homes aways (placed_to sheet g) sheet c (keeps c.g (ltb c.g g) refl) (keeps c.h (ltb c.h g) refl)
+      clashing-kept homes aways (placed_to sheet g) sheet c (keeps c.g) (keeps c.h)
     where
-      keeps : (h : ℕ) (b : Bool) → ltb h g ≡ b → (k : ℕ) → get_or (placed_to sheet g) h 0 ≡ suc k → get_or sheet h 0 ≡ suc k
-      keeps h true l k s = sym (earlier g h low (ltb-true h g l)) ∙ s
-      keeps h false l k s = absurd (omega (arith, later g h (ltb-false h g l)))
+      keeps : (h k : ℕ) → get_or (placed_to sheet g) h 0 ≡ suc k → get_or sheet h 0 ≡ suc k
+      keeps h k s = grind (arith, s, earlier g h low, later g h)
 
 module _ (n : ℕ) (homes aways sheet : List ℕ) where
   -- before the first turn
   pub fits-none : (t : Tables) → Empty t → Fits n true t homes aways (placed_to sheet 0)
   unfolding meetings is_at
   fits-none t empty = record {
-    no-clash = sym (ap not (false_from_ne_true _ (λ e. let c = clash-is homes aways (placed_to sheet 0) e in omega (arith, later sheet 0 c.g (omega arith), (c.first).slot))));
+    no-clash = sym (ap not (false_from_ne_true _ (λ e.
+        let c = clash-is homes aways (placed_to sheet 0) e in omega (arith, later sheet 0 c.g (omega arith), c.first.slot))));
     shows = λ e. record {
       tied = record {
         sized = record {
           home-length = ap length empty.home-is ∙ length-replicate {A = ℕ} most_teams 0;
           away-length = ap length empty.away-is ∙ length-replicate {A = ℕ} most_teams 0;
-          meets-length = ap length empty.meets-is ∙ length-replicate {A = ℕ} most_places 0;
+          meets-length = ap length empty.meets-is ∙ length-replicate {A = List ℕ} most_teams (replicate {A = ℕ} most_teams 0);
+          row-length = λ i l.
+              rw (empty.meets-is, get_or-replicate {A = List ℕ} most_teams i (replicate {A = ℕ} most_teams 0) [] l)
+              (length-replicate {A = ℕ} most_teams 0);
         };
         home-row = λ i k li lk. at_home i k ∙ sym (sum-zero n (λ j lj. no-meeting i j k));
         away-row = λ j k lj lk. at-away j k ∙ sym (sum-zero n (λ i li. no-meeting i j k));
@@ -101,7 +101,7 @@ module _ (n : ℕ) (homes aways sheet : List ℕ) where
       at-away j k = none-bit-at most_teams t.away j k empty.away-is
 
       no-meeting : (i j k : ℕ) → x_of t.meets i j k ≡ 0
-      no-meeting i j k = none-bit-at most_places t.meets (cell i j) k empty.meets-is
+      no-meeting i j k = rw (empty.meets-is, none-in-row most_teams most_teams i j) (bit_at-zero k)
 
       none-met : (i j k : ℕ) → meetings homes aways (placed_to sheet 0) i j k ≡ 0
       none-met i j k = sum-zero (length homes) (λ g lg. rw (later sheet 0 g (omega arith), eqb-zero-suc k, and-false))

@@ -1,25 +1,28 @@
 -- A game lifted from a sheet and a game placed on it: the tables stay those of the sheet, and a busy team is a clash. Assumes nothing.
-use mathlib.Core.Path.{◌≡◌, refl, sym, ap, ◌∙◌}
+use mathlib.Core.Path.{◌≡◌, sym, ap, ◌∙◌}
 use mathlib.Core.List.{List}
 use mathlib.Core.Bool.{Bool, true, false, or-true, true≢false}
+use mathlib.Core.Logic.{⊎_elim}
 use Prim.Native.Nat.{ℕ, suc, ◌<◌, ◌≤◌}
 use native.Mathlib.Omega.{arith}
 use native.Mathlib.Decide.{ℕ_discrete}
 use lib.ListN.{length, get_or, set, length-set}
 use lib.Seq.{get_or-set_same, get_or-set_other, set-set, set-get_or}
-use Rattle.std.proofs.lemmas.Bool.{or_parts, false_from_ne_true}
+use Rattle.std.proofs.lemmas.Bool.{or_parts, or_cases, false_from_ne_true}
+use Rattle.std.proofs.lemmas.Bool.Decides.{same_from_decides}
+use Rattle.std.proofs.lemmas.Grind.{common_steps}
 use Rattle.robinx.specs.Groups.{has}
 use Rattle.robinx.specs.Season.{most_slots}
 use Rattle.robinx.specs.Timetable.{meetings, clash}
 use Rattle.robinx.proofs.Sums.{term-le-sum}
 use Rattle.robinx.proofs.Bits.{out-bit}
 use Rattle.tables.specs.declared.Tables.{Tables}
-use Rattle.tables.specs.Tables.{tables, cell, x_of, Sized, busy, taken, put_into, taken_out_of}
+use Rattle.tables.specs.Tables.{tables, hosted_by, hosting, x_of, Sized, busy, taken, put_into, taken_out_of}
 use Rattle.timetable.specs.OfSheet.{Shows, InRange}
 use Rattle.timetable.proofs.Points.{joined-more, without-less, set-gains, set-loses}
-use Rattle.timetable.proofs.Tied.{MeetsMore, shows_more, shows-less}
+use Rattle.timetable.proofs.Tied.{MeetsMore, row-gains, row-loses, shows_more, shows-less}
 use Rattle.timetable.proofs.Sheet.{meetings-more}
-use Rattle.timetable.proofs.Clash.{or_cases, is_team, is-host, is-guest, team-cases, Plays, Clashing, is-clash, clash-is, plays-kept, clashing-kept}
+use Rattle.timetable.proofs.Clash.{is_team, is-host, is-guest, team-cases, Plays, Clashing, is-clash, clash-is, plays-kept, clashing-kept}
 use Rattle.timetable.proofs.PlacedGames.{game-meets, game-home, game-away, game-busy, busy-game}
 
 pub in-range-set : {n : ℕ} {homes aways sheet : List ℕ} (g b : ℕ)
@@ -29,12 +32,8 @@ pub in-range-set : {n : ℕ} {homes aways sheet : List ℕ} (g b : ℕ)
 in-range-set {homes = homes} {sheet = sheet} g b lb range = record {
   teams = range.teams;
   sheet-length = length-set sheet g b ∙ range.sheet-length;
-  slot-low = λ h lh. go h lh (ℕ_discrete h g);
+  slot-low = λ h lh. grind (arith, common_steps, lb, range.sheet-length, range.slot-low h lh);
 }
-  where
-    go : (h : ℕ) → h < length homes → Dec (h ≡ g) → get_or (set sheet g b) h 0 ≤ most_slots
-    go h lh (yes e) = rw (e, get_or-set_same sheet g b 0 (omega (arith, range.sheet-length))) lb
-    go h lh (no e) = rw (get_or-set_other sheet g h b 0 e) (range.slot-low h lh)
 
 -- a game that had no slot gets one: what was a clash still is
 pub clash-stays : (homes aways sheet : List ℕ) (g b : ℕ)
@@ -43,11 +42,10 @@ pub clash-stays : (homes aways sheet : List ℕ) (g b : ℕ)
     → clash homes aways (set sheet g b) ≡ true
 clash-stays homes aways sheet g b lifted e =
     let c = clash-is homes aways sheet e in
-    clashing-kept homes aways sheet (set sheet g b) c (keeps c.g (ℕ_discrete c.g g)) (keeps c.h (ℕ_discrete c.h g))
+    clashing-kept homes aways sheet (set sheet g b) c (keeps c.g) (keeps c.h)
   where
-    keeps : (h : ℕ) → Dec (h ≡ g) → (k : ℕ) → get_or sheet h 0 ≡ suc k → get_or (set sheet g b) h 0 ≡ suc k
-    keeps h (yes p) k s = absurd (omega (arith, lifted, s, ap (λ (z : ℕ). get_or sheet z 0) p))
-    keeps h (no p) k s = get_or-set_other sheet g h b 0 p ∙ s
+    keeps : (h k : ℕ) → get_or sheet h 0 ≡ suc k → get_or (set sheet g b) h 0 ≡ suc k
+    keeps h k s = grind (arith, common_steps, lifted, s)
 
 -- no clash stays so when a game is lifted
 pub clash-lift : (homes aways sheet : List ℕ) (g : ℕ)
@@ -60,10 +58,6 @@ clash-lift homes aways sheet g low none = false_from_ne_true _ (λ e. true≢fal
     back e =
         rw (set-set, set-get_or) at
         (clash-stays homes aways (set sheet g 0) g (get_or sheet g 0) (get_or-set_same sheet g 0 0 low) e)
-
-same_test : (a b : Bool) → (a ≡ true → b ≡ true) → (b ≡ true → a ≡ true) → a ≡ b
-same_test true b to from = sym (to refl)
-same_test false b to from = sym (false_from_ne_true b (λ e. true≢false (sym (from e))))
 
 -- Game g of a sheet whose tables these are.
 module _ {n : ℕ} {t : Tables} {homes aways sheet : List ℕ} (range : InRange n homes aways sheet) (g : ℕ) (low : g < length homes)
@@ -86,23 +80,28 @@ module _ {n : ℕ} {t : Tables} {homes aways sheet : List ℕ} (range : InRange 
   in-away : j < length t.away
   in-away = omega (arith, lj, range.teams.few, shows.tied.sized.away-length)
 
-  in-meets : cell i j < length t.meets
-  in-meets = omega (arith, li, lj, range.teams.few, shows.tied.sized.meets-length)
+  in-meets : i < length t.meets
+  in-meets = omega (arith, li, range.teams.few, shows.tied.sized.meets-length)
 
-  sized_set : (u v w : ℕ) → Sized (tables (set t.home i u) (set t.away j v) (set t.meets (cell i j) w))
+  in-row : j < length (hosted_by t.meets i)
+  in-row = omega (arith, li, lj, range.teams.few, shows.tied.sized.row-length i)
+
+  sized_set : (u v w : ℕ) → Sized (tables (set t.home i u) (set t.away j v) (set t.meets i (set (hosted_by t.meets i) j w)))
   sized_set u v w = record {
     home-length = length-set t.home i u ∙ shows.tied.sized.home-length;
     away-length = length-set t.away j v ∙ shows.tied.sized.away-length;
-    meets-length = length-set t.meets (cell i j) w ∙ shows.tied.sized.meets-length;
+    meets-length = length-set t.meets i (set (hosted_by t.meets i) j w) ∙ shows.tied.sized.meets-length;
+    row-length = λ p l. grind (arith, common_steps, in-meets, shows.tied.sized.row-length p l);
   }
 
-  pub lift-law : (k : ℕ) → get_or sheet g 0 ≡ suc k → Shows n (taken_out_of (get_or homes g 0) (get_or aways g 0) (suc k) t) homes aways (set sheet g 0)
+  pub lift-law : (k : ℕ) → get_or sheet g 0 ≡ suc k
+      → Shows n (taken_out_of (get_or homes g 0) (get_or aways g 0) (suc k) t) homes aways (set sheet g 0)
   lift-law k placed =
-      shows-less n i j k (taken_out_of i j (suc k) t) t range.teams.few li lj
+      shows-less n i j k (taken_out_of i j (suc k) t) t li lj
       (set-loses t.home i k in-home _ (without-less (get_or t.home i 0) k (game-home range shows k lk g low placed)))
       (set-loses t.away j k in-away _ (without-less (get_or t.away j 0) k (game-away range shows k lk g low placed)))
-      (set-loses t.meets (cell i j) k in-meets _
-      (without-less (get_or t.meets (cell i j) 0) k (game-meets range shows k lk g low placed)))
+      (row-loses n i j k t.meets in-meets _
+      (set-loses (hosted_by t.meets i) j k in-row _ (without-less (hosting t.meets i j) k (game-meets range shows k lk g low placed))))
       homes aways (set sheet g 0) sheet
       more
       (sized_set _ _ _)
@@ -138,10 +137,10 @@ module _ {n : ℕ} {t : Tables} {homes aways sheet : List ℕ} (range : InRange 
         let at-away = out-bit (get_or t.away j 0) k guest.1 in
         let not-met : x_of t.meets i j k ≡ 0 =
         omega (arith, at_home, shows.tied.home-row i k li lk, term-le-sum (λ q. x_of t.meets i q k) j n lj) in
-        shows_more n i j k t (put_into i j (suc k) t) range.teams.few li lj
+        shows_more n i j k t (put_into i j (suc k) t) li lj
         (set-gains t.home i k in-home _ (joined-more (get_or t.home i 0) k at_home))
         (set-gains t.away j k in-away _ (joined-more (get_or t.away j 0) k at-away))
-        (set-gains t.meets (cell i j) k in-meets _ (joined-more (get_or t.meets (cell i j) 0) k not-met))
+        (row-gains n i j k t.meets in-meets _ (set-gains (hosted_by t.meets i) j k in-row _ (joined-more (hosting t.meets i j) k not-met)))
         homes aways sheet (set sheet g (suc k))
         (meetings-more n homes aways sheet g k range.sheet-length low lifted)
         (sized_set _ _ _)
@@ -190,12 +189,12 @@ module _ {n : ℕ} {t : Tables} {homes aways sheet : List ℕ} (range : InRange 
     pub busy-is-clash : clash homes aways sheet ≡ false
         → taken t.home t.away (get_or homes g 0) (get_or aways g 0) k ≡ clash homes aways (set sheet g (suc k))
     unfolding after
-    busy-is-clash none = same_test _ _ to from
+    busy-is-clash none = same_from_decides _ _ (to, from) (λ e. e, λ e. e)
       where
         to : occupied ≡ true → clash homes aways after ≡ true
         to e =
-            or_cases (busy t.home t.away i k) (busy t.home t.away j k) e
-            (busy-clash i li (is-host homes aways g)) (busy-clash j lj (is-guest homes aways g))
+            ⊎_elim (busy-clash i li (is-host homes aways g)) (busy-clash j lj (is-guest homes aways g))
+            (or_cases (busy t.home t.away i k) (busy t.home t.away j k) e)
 
         go : (c : Clashing homes aways after) → Dec (c.g ≡ g) → Dec (c.h ≡ g) → occupied ≡ true
         go c (yes p) q = clash-busy c.t c.k c.h (λ e. c.apart (p ∙ e)) (rw p at c.first) c.second

@@ -1,22 +1,24 @@
 -- What the tables of a sheet say of its games: a placed game has its three bits, a busy team has a game. Assumes nothing.
-use mathlib.Core.Path.{◌≡◌, refl, sym}
+use mathlib.Core.Path.{◌≡◌, sym, ◌∙◌}
 use mathlib.Core.List.{List}
 use mathlib.Core.Bool.{true, ◌&&◌, or-true}
+use mathlib.Core.Logic.{⊎_elim}
 use Prim.Native.Nat.{ℕ, suc, ◌<◌, ◌≤◌}
 use native.Mathlib.Omega.{arith}
 use lib.Dec.{eqb}
 use lib.ListN.{length, get_or}
-use borrow.Author.Tests.{eqb-true, eq-eqb}
-use Rattle.std.proofs.lemmas.Bool.{and_parts}
+use borrow.Author.Tests.{eqb-true, eq-eqb, lt-ltb}
+use Rattle.std.proofs.lemmas.Bool.{and_parts, or_cases}
+use Rattle.std.proofs.lemmas.Bool.Decides.{nat_tests}
 use Rattle.robinx.specs.Sums.{only}
 use Rattle.robinx.specs.Groups.{bit, has}
 use Rattle.robinx.specs.Season.{most_slots}
 use Rattle.robinx.specs.Timetable.{is_at, meetings}
-use Rattle.robinx.proofs.Sums.{term-le-sum}
+use Rattle.robinx.proofs.Sums.{any-is-sum, some-any, some-term, term-le-sum}
 use Rattle.tables.specs.declared.Tables.{Tables}
-use Rattle.tables.specs.Tables.{cell, x_of, busy}
+use Rattle.tables.specs.Tables.{hosting, x_of, busy}
 use Rattle.timetable.specs.OfSheet.{Shows, InRange}
-use Rattle.timetable.proofs.Clash.{sum-found, count-found, or_cases, team-cases, Plays}
+use Rattle.timetable.proofs.Clash.{team-cases, Plays}
 
 module _ {n : ℕ} {t : Tables} {homes aways sheet : List ℕ} (range : InRange n homes aways sheet) (shows : Shows n t homes aways sheet)
     (k : ℕ) (lk : k < most_slots) where
@@ -32,10 +34,10 @@ module _ {n : ℕ} {t : Tables} {homes aways sheet : List ℕ} (range : InRange 
     unfolding meetings is_at
     met =
         let here : only (is_at homes aways sheet i j k g) 1 ≡ 1 =
-        rw (placed, eq-eqb i i refl, eq-eqb j j refl, eq-eqb (suc k) (suc k) refl) in
+        grind (arith, nat_tests, placed) in
         omega (arith, term-le-sum (λ h. only (is_at homes aways sheet i j k h) 1) g (length homes) low)
 
-    pub game-meets : bit (get_or t.meets (cell (get_or homes g 0) (get_or aways g 0)) 0) k ≡ 1
+    pub game-meets : bit (hosting t.meets (get_or homes g 0) (get_or aways g 0)) k ≡ 1
     game-meets = omega (arith, met, shows.x i j k (range.teams.home-below g low) (range.teams.away-below g low) lk)
 
     pub game-home : bit (get_or t.home (get_or homes g 0) 0) k ≡ 1
@@ -70,7 +72,8 @@ module _ {n : ℕ} {t : Tables} {homes aways sheet : List ℕ} (range : InRange 
       → (g : ℕ) × Plays homes aways sheet p k g × Plays homes aways sheet q k g
   unfolding meetings is_at
   met-game p q lp lq some =
-      let s = count-found (is_at homes aways sheet p q k) (length homes) (rw (← shows.x p q k lp lq lk) some) in
+      let game = is_at homes aways sheet p q k in
+      let s = some-any game (length homes) (any-is-sum game (length homes) ∙ lt-ltb 0 _ (rw (← shows.x p q k lp lq lk) some)) in
       let at = and_parts (eqb (get_or homes s.0 0) p && eqb (get_or aways s.0 0) q) _ s.2 in
       let teams = and_parts (eqb (get_or homes s.0 0) p) _ at.0 in
       let slot = eqb-true (get_or sheet s.0 0) (suc k) at.1 in
@@ -80,12 +83,13 @@ module _ {n : ℕ} {t : Tables} {homes aways sheet : List ℕ} (range : InRange 
 
   pub busy-game : (s : ℕ) → s < n → busy t.home t.away s k ≡ true → (g : ℕ) × Plays homes aways sheet s k g
   busy-game s ls b =
-      or_cases (has (get_or t.home s 0) k) (has (get_or t.away s 0) k) b
+      ⊎_elim
       (λ e.
-      let other = sum-found (λ q. x_of t.meets s q k) n (omega (arith, eqb-true (bit (get_or t.home s 0) k) 1 e, shows.tied.home-row s k ls lk)) in
+      let other = some-term (λ q. x_of t.meets s q k) n (omega (arith, eqb-true (bit (get_or t.home s 0) k) 1 e, shows.tied.home-row s k ls lk)) in
       let m = met-game s other.0 ls other.1 other.2 in
       (m.0, m.1))
       (λ e.
-      let other = sum-found (λ p. x_of t.meets p s k) n (omega (arith, eqb-true (bit (get_or t.away s 0) k) 1 e, shows.tied.away-row s k ls lk)) in
+      let other = some-term (λ p. x_of t.meets p s k) n (omega (arith, eqb-true (bit (get_or t.away s 0) k) 1 e, shows.tied.away-row s k ls lk)) in
       let m = met-game other.0 s other.1 ls other.2 in
       (m.0, m.2))
+      (or_cases (has (get_or t.home s 0) k) (has (get_or t.away s 0) k) b)

@@ -1,15 +1,15 @@
 -- Sums and tables that differ at one point. Assumes nothing.
-use mathlib.Core.Path.{◌≡◌, refl, sym, ap, ◌∙◌}
+use mathlib.Core.Path.{◌≡◌, refl, sym}
 use mathlib.Core.List.{List}
-use mathlib.Core.Bool.{Bool, true, false, ◌&&◌}
+use mathlib.Core.Bool.{Bool, ◌&&◌}
 use Prim.Native.Nat.{ℕ, zero, suc, ◌+◌, ◌<◌}
 use native.Mathlib.Omega.{arith}
 use native.Mathlib.Decide.{ℕ_discrete}
-use native.Mathlib.Nat.{add-zero}
 use lib.Dec.{eqb}
 use lib.ListN.{length, get_or, set}
-use lib.Seq.{lt-length-set, get_or-set_same, get_or-set_other, set-set, set-get_or}
-use borrow.Author.Tests.{eq-eqb, ne_eqb, eqb-true, eqb-false}
+use Rattle.std.proofs.lemmas.Bool.Decides.{nat_tests}
+use Rattle.std.proofs.lemmas.Grind.{common_steps}
+use borrow.Author.Tests.{eq-eqb, ne_eqb}
 use Rattle.robinx.specs.Sums.{sum_to, only}
 use Rattle.robinx.specs.Groups.{bit}
 use Rattle.robinx.proofs.Sums.{sum-zero}
@@ -40,22 +40,15 @@ sum-point n j b l =
       sum-zero {f = λ z. 0} n (λ k lk. refl),
     )
 
-eqb-sym : (a b : ℕ) → eqb a b ≡ eqb b a
-eqb-sym a b = go (eqb b a) refl
-  where
-    go : (t : Bool) → eqb b a ≡ t → eqb a b ≡ t
-    go true e = eq-eqb a b (sym (eqb-true b a e))
-    go false e = ne_eqb a b (λ p. eqb-false b a e (sym p))
-
 -- w' is the mask w with slot k besides
 abbrev pub OneMore : ℕ → ℕ → ℕ → Type 0
 OneMore k w w' = (a : ℕ) → bit w' a ≡ bit w a + only (eqb k a) 1
 
 pub joined-more : (w k : ℕ) → bit w k ≡ 0 → OneMore k w (joined w k)
-joined-more w k free a = rw (eqb-sym k a) (joined-adds w k free a)
+joined-more w k free a = grind (arith, nat_tests, joined-adds w k free a)
 
 pub without-less : (w k : ℕ) → bit w k ≡ 1 → OneMore k (without w k) w
-without-less w k here a = rw (eqb-sym k a) (sym (without-takes w k here a))
+without-less w k here a = grind (arith, nat_tests, without-takes w k here a)
 
 -- l' is the table l with slot k in word q besides
 abbrev pub Gains : ℕ → ℕ → List ℕ → List ℕ → Type 0
@@ -63,14 +56,7 @@ Gains q k l l' = (p a : ℕ) → bit (get_or l' p 0) a ≡ bit (get_or l p 0) a 
 
 module _ (l : List ℕ) (q k : ℕ) (low : q < length l) where
   pub set-gains : (v : ℕ) → OneMore k (get_or l q 0) v → Gains q k l (set l q v)
-  set-gains v more p a = go (ℕ_discrete p q)
-    where
-      go : Dec (p ≡ q) → bit (get_or (set l q v) p 0) a ≡ bit (get_or l p 0) a + only (eqb q p && eqb k a) 1
-      go (yes e) = rw (e, get_or-set_same l q v 0 low, eq-eqb q q refl) (more a)
-      go (no e) = rw (get_or-set_other l q p v 0 e, ne_eqb q p (λ f. e (sym f))) (sym (add-zero _))
+  set-gains v more p a = grind (arith, common_steps, low, more a)
 
-pub set-loses : (l : List ℕ) (q k : ℕ) → q < length l → (v : ℕ) → OneMore k v (get_or l q 0) → Gains q k (set l q v) l
-set-loses l q k low v more p a =
-    let back : set (set l q v) q (get_or l q 0) ≡ l = set-set l q v (get_or l q 0) ∙ set-get_or l q 0 in
-    ap (λ (z : List ℕ). bit (get_or z p 0) a) (sym back)
-    ∙ set-gains (set l q v) q k (lt-length-set l q v low) (get_or l q 0) (rw (get_or-set_same l q v 0 low) more) p a
+  pub set-loses : (v : ℕ) → OneMore k v (get_or l q 0) → Gains q k (set l q v) l
+  set-loses v more p a = grind (arith, common_steps, low, more a)

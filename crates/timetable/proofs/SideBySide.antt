@@ -51,7 +51,9 @@ module _ (ks vs ws : List ℕ) where
   module _ (s : Walk) (first : iter_rest s.a.a ≡ ks) (second : iter_rest s.a.b ≡ vs) (third : iter_rest s.b ≡ ws)
       (xs : List Three) (t u : Walk) (y : Yields steps s xs t) (r : Option Three) (step : steps t r u) where
     road : YieldsList steps (λ x. ((x.0.0.now, x.0.1.now), x.1.now)) s (zip (zip ks vs) ws)
-    road = YieldsList-from_zip (YieldsList-from_zip (YieldsList-from_slice ks first) (YieldsList-from_slice vs second)) (YieldsList-from_slice ws third)
+    road =
+        YieldsList-from_zip (YieldsList-from_zip (YieldsList-from_slice ks first) (YieldsList-from_slice vs second))
+        (YieldsList-from_slice ws third)
 
     pub three-turn : (x : Three) → r ≡ Some x → At (length xs) x
     three-turn x is =

@@ -5,8 +5,9 @@ use mathlib.Core.Bool.{Bool, true, false, not, true≢false}
 use Prim.Native.Nat.{ℕ, zero, suc, ◌<◌, ◌≤◌}
 use native.Mathlib.Omega.{arith}
 use lib.ListN.{length, get_or, set}
-use lib.Seq.{get_or-set_same, get_or-set_other, set-set, set_comm, set-get_or}
+use lib.Seq.{get_or-set_same, set-set, set_comm, set-get_or}
 use borrow.Author.Tests.{not-true, not-false}
+use Rattle.std.proofs.lemmas.Grind.{common_steps}
 use Rattle.robinx.specs.Season.{most_slots}
 use Rattle.robinx.specs.Timetable.{clash}
 use Rattle.tables.specs.declared.Tables.{Tables}
@@ -92,15 +93,13 @@ module _ {n : ℕ} {homes aways sheet : List ℕ} (range : InRange n homes aways
   range-3 = in-range-set g (get_or sheet h 0) (range.slot-low h lh) range-2
 
   still : get_or (set sheet g 0) h 0 ≡ get_or sheet h 0
-  still = get_or-set_other sheet g h 0 0 (λ e. apart (sym e))
+  still = grind (arith, common_steps, apart)
 
   free-g : get_or (set (set sheet g 0) h 0) g 0 ≡ 0
-  free-g = get_or-set_other (set sheet g 0) h g 0 0 apart ∙ get_or-set_same sheet g 0 0 (omega (arith, range.sheet-length))
+  free-g = grind (arith, common_steps, apart, lg, range.sheet-length)
 
   free-h : get_or (set (set (set sheet g 0) h 0) g (get_or sheet h 0)) h 0 ≡ 0
-  free-h =
-      get_or-set_other (set (set sheet g 0) h 0) g h (get_or sheet h 0) 0 (λ e. apart (sym e))
-      ∙ get_or-set_same (set sheet g 0) h 0 0 (omega (arith, range-1.sheet-length))
+  free-h = grind (arith, common_steps, apart, lh, range.sheet-length)
 
   -- the first game is put
   first-put : Fits n r t₃ homes aways (set (set (set sheet g 0) h 0) g (get_or sheet h 0))

@@ -5,13 +5,14 @@ use Prim.Native.Nat.{ℕ}
 use Rattle.std.proofs.Common.{Option, None, Some}
 use lib.Dec.{eqb}
 use Rattle.robinx.specs.Season.{slots_of}
+use Rattle.robinx.specs.Sheet.{byte_of}
 use Rattle.robinx.specs.Kinds.{form_at}
 use Rattle.robinx.specs.Touch.{teams_touch, slot_touches, scope_of, hits, touches}
 use Rattle.robinx.specs.declared.Constraint.{Constraint}
 use Rattle.robinx.specs.declared.Form.{Form}
 use Rattle.robinx.specs.declared.TouchTeams.{TouchTeams}
 use Rattle.robinx.specs.declared.TouchTeams.TheVariants.{Nobody, OneInT1, Across, HomeAndAway, BothInT1}
-use Rattle.touch.specs.Touched.{at_slot, byte_of, by_row, by_row_too, AsksForT1, PassedOver, Named, NamedToo, touched_by_move, touched_too}
+use Rattle.touch.specs.Touched.{at_slot, by_row, by_row_too, AsksForT1, PassedOver, Named, NamedToo, touched_by_move, touched_too}
 use Rattle.touch.specs.declared.moves.Move.{Move}
 
 -- a game in a slot of the sheet is read where both its teams and the slot are asked for
@@ -34,8 +35,8 @@ shared false a b = refl
 pub by_row_lem : (c : Constraint) (v : Move) {f : Form} → f ≡ form_at c.kind → by_row f c v ≡ touched_by_move v c
 unfolding by_row touches
 by_row_lem c v e =
-    let i = v.home in
-    let j = v.away in
+    let i = v.game.home in
+    let j = v.game.away in
     ap (λ (f : Form). by_row f c v) e
     ∙ ap (λ (t : Bool). not (eqb (byte_of v.from) (byte_of v.to)) && t)
     (sym (shared (teams c i j) _ _) ∙ sym (ap₂ ◌||◌ (hits-is c i j v.from) (hits-is c i j v.to)))
@@ -44,7 +45,9 @@ by_row_lem c v e =
 pub not-touched : {teams : ℕ} (c : Constraint) (v : Move) {f : Form} → f ≡ form_at c.kind → PassedOver f.teams c.t1 teams → Named teams v
     → touched_by_move v c ≡ false
 unfolding by_row
-not-touched c v {f} e none named = sym (by_row_lem c v e) ∙ rw (none c.t2 v.home v.away named.home named.away) (and-false (not (eqb (byte_of v.from) (byte_of v.to))))
+not-touched c v {f} e none named =
+    sym (by_row_lem c v e)
+    ∙ rw (none c.t2 v.game.home v.game.away named.home named.away) (and-false (not (eqb (byte_of v.from) (byte_of v.to))))
 
 -- a game that a row asks for has a team of T1, in all rows of today
 pub outside : (asked : TouchTeams) → AsksForT1 asked
@@ -60,7 +63,7 @@ pub by_row_too_lem : (c : Constraint) (w : Option Move) {f : Form} → f ≡ for
 by_row_too_lem c None e = refl
 by_row_too_lem c (Some v) e = by_row_lem c v e
 
-pub not-touched-too : (named-teams : ℕ) (c : Constraint) (w : Option Move) {f : Form} → f ≡ form_at c.kind → PassedOver f.teams c.t1 named-teams → NamedToo named-teams w
-    → touched_too w c ≡ false
+pub not-touched-too : (named-teams : ℕ) (c : Constraint) (w : Option Move) {f : Form} → f ≡ form_at c.kind
+    → PassedOver f.teams c.t1 named-teams → NamedToo named-teams w → touched_too w c ≡ false
 not-touched-too _ c None e none named = refl
 not-touched-too _ c (Some v) e none named = not-touched c v e none named

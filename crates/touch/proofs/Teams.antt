@@ -28,8 +28,8 @@ module _ (m n k : ℕ) where
   apart e h = sym (rw (e, bit_at-zero, h, and-true) at (and-has m n k))
 
 -- the group of a move, and a union with it
-pub of_pair : (v : Move) → Named (bit_or (2 ^ v.home) (2 ^ v.away)) v
-of_pair v = record { home = or_left _ _ _ (of_one v.home); away = or_right _ _ _ (of_one v.away) }
+pub of_pair : (v : Move) → Named (bit_or (2 ^ v.game.home) (2 ^ v.game.away)) v
+of_pair v = record { home = or_left _ _ _ (of_one v.game.home); away = or_right _ _ _ (of_one v.game.away) }
 
 pub named_left : (m n : ℕ) {v : Move} → Named m v → Named (bit_or m n) v
 named_left m n p = record { home = or_left m n _ p.home; away = or_left m n _ p.away }
@@ -41,6 +41,8 @@ named_right m n p = record { home = or_right m n _ p.home; away = or_right m n _
 pub named_too : (m n : ℕ) (w : Option Move) → MatchOption w (n ≡ 0) (λ v. Named n v) → NamedToo (bit_or m n) w
 named_too m n None p = tt
 named_too m n (Some v) p = named_right m n p
+
+pub ruleset named_rules = (named_left, named_too)
 
 -- a group that has none of T1
 pub passed_over : (asked : TouchTeams) (T1 teams : ℕ) → AsksForT1 asked → bit_and T1 teams ≡ 0 → PassedOver asked T1 teams

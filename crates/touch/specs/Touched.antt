@@ -1,7 +1,8 @@
 -- What touches a constraint, by the row of its kind and a move.
-use Rattle.std.specs.Prelude.{◌≡◌, Bool, true, false, ◌&&◌, ◌||◌, not, ℕ, suc, eqb, Option, None, Some, IfSome}
+use Rattle.std.specs.Prelude.{◌≡◌, Bool, true, false, ◌&&◌, ◌||◌, not, ℕ, eqb, Option, None, Some, IfSome}
 use Rattle.robinx.specs.Season.{slots_of}
 use Rattle.robinx.specs.Groups.{has}
+use Rattle.robinx.specs.Sheet.{byte_of}
 use Rattle.robinx.specs.Touch.{teams_touch, slot_touches, touches}
 use Rattle.robinx.specs.declared.Constraint.{Constraint}
 use Rattle.robinx.specs.declared.Form.{Form}
@@ -13,15 +14,10 @@ unfoldable pub at_slot : (ℕ → Bool) → Option ℕ → Bool
 at_slot p None = false
 at_slot p (Some k) = p k
 
--- the sheet's byte of a slot: it counts from 1, and 0 is none
-abbrev pub byte_of : Option ℕ → ℕ
-byte_of None = 0
-byte_of (Some k) = suc k
-
 -- the move of game (i, j) from the slot of byte a to that of byte b
 pub record MoveOf (i j a b : ℕ) (v : Move) : Type 0 where
-  pub home : v.home ≡ i
-  pub away : v.away ≡ j
+  pub home : v.game.home ≡ i
+  pub away : v.game.away ≡ j
   pub from : byte_of v.from ≡ a
   pub to : byte_of v.to ≡ b
 
@@ -29,7 +25,7 @@ pub record MoveOf (i j a b : ℕ) (v : Move) : Type 0 where
 unfoldable pub by_row : Form → Constraint → Move → Bool
 by_row f c v =
     not (eqb (byte_of v.from) (byte_of v.to))
-    && (teams_touch f.teams c.t1 c.t2 v.home v.away
+    && (teams_touch f.teams c.t1 c.t2 v.game.home v.game.away
     && (at_slot (slot_touches f.slots (slots_of c)) v.from || at_slot (slot_touches f.slots (slots_of c)) v.to))
 
 -- .. the second move, if there is one
@@ -47,15 +43,15 @@ PassedOver asked T1 teams = (T2 i j : ℕ) → has teams i ≡ true → has team
 
 -- the group has both teams of the move
 pub record Named (teams : ℕ) (v : Move) : Type 0 where
-  pub home : has teams v.home ≡ true
-  pub away : has teams v.away ≡ true
+  pub home : has teams v.game.home ≡ true
+  pub away : has teams v.game.away ≡ true
 
 abbrev pub NamedToo : ℕ → Option Move → Type 0
 NamedToo teams second = IfSome second (Named teams)
 
 -- robinx's test of a move, and of a second one, if there is one
 abbrev pub touched_by_move : Move → Constraint → Bool
-touched_by_move v c = touches c v.home v.away (byte_of v.from) (byte_of v.to)
+touched_by_move v c = touches c v.game.home v.game.away (byte_of v.from) (byte_of v.to)
 
 abbrev pub touched_too : Option Move → Constraint → Bool
 touched_too None c = false

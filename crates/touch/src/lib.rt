@@ -4,8 +4,8 @@
 #![tactic(auto)]
 
 ghost use Rattle.std.specs.Prelude.{◌≡◌, true, ◌||◌, ◌<◌, ◌≤◌};
-ghost use Rattle.std.specs.Option.{ForSome};
 ghost use Rattle.robinx.specs.Season.{most_teams, most_slots};
+ghost use Rattle.robinx.specs.Sheet.{byte_of};
 ghost use Rattle.robinx.specs.Touch.{teams_touch, slot_touches};
 ghost use Rattle.touch.specs.Touched.{at_slot, AsksForT1, PassedOver, by_row, by_row_too};
 
@@ -18,11 +18,11 @@ use robinx::{Constraint, Form, Slots, TouchSlots, TouchTeams};
 // A move's game is such as the row asks. Both teams are looked up, without a branch between them.
 #[tactic(auto, unfolding(robinx::specs::Touch::teams_touch))]
 fn teams_touch(asked: TouchTeams, c: Constraint, v: Move) -> bool
-    ensures { result ≡ teams_touch asked c.t1 c.t2 v.home v.away }
+    ensures { result ≡ teams_touch asked c.t1 c.t2 v.game.home v.game.away }
 {
     let Constraint { t1, t2, .. } = c;
-    let i = usize::from(v.home);
-    let j = usize::from(v.away);
+    let i = usize::from(v.game.home);
+    let j = usize::from(v.game.away);
     match asked {
         TouchTeams::Nobody => false,
         TouchTeams::OneInT1 => is_in(t1, i) | is_in(t1, j),
@@ -33,6 +33,7 @@ fn teams_touch(asked: TouchTeams, c: Constraint, v: Move) -> bool
 }
 
 // Every game that the row asks for has a team of T1. This is so in all rows; each is named here, so that a new one has to be judged.
+#[tactic(auto, using(crate::proofs::Asked::outside))]
 fn asks_for_t1(asked: TouchTeams) -> bool
     ensures { result ≡ true → AsksForT1 asked }
 {
@@ -46,6 +47,7 @@ fn asks_for_t1(asked: TouchTeams) -> bool
 }
 
 // None of the teams is in T1, and the row asks for one that is. The groups are tested first: few constraints have a team in both.
+#[tactic(auto, using(crate::proofs::Teams::passed_over))]
 pub fn passed_over(f: Form, t1: u32, teams: u32) -> bool
     ensures { result ≡ true → PassedOver f.teams t1 teams }
 {
@@ -55,7 +57,7 @@ pub fn passed_over(f: Form, t1: u32, teams: u32) -> bool
 // The slot of a game is such as the row asks; that of an unplaced one is not.
 #[tactic(auto, unfolding(robinx::specs::Touch::slot_touches, crate::specs::Touched::at_slot))]
 fn slot_touches(asked: TouchSlots, s: Slots, slot: Option<u8>) -> bool
-    requires { ForSome slot (λ k. k < most_slots) }
+    requires { byte_of slot ≤ most_slots }
     ensures { result ≡ at_slot (slot_touches asked s) slot }
 {
     let Some(k) = slot else {

@@ -2,47 +2,41 @@
 
 #![tactic(auto)]
 
-ghost use Rattle.std.specs.Prelude.{◌<◌, ◌≤◌};
-ghost use Rattle.std.specs.Option.{ForSome};
-ghost use Rattle.robinx.specs.Season.{most_teams, most_slots};
+ghost use Rattle.std.specs.Prelude.{◌≤◌};
+ghost use Rattle.robinx.specs.Season.{most_slots};
+ghost use Rattle.robinx.specs.Sheet.{byte_of};
 
-// Game (home, away) goes from one slot to another; slots count from 0 here, and a game may have none.
+use robinx::game::Game;
+
+// A game goes from one slot to another, and may have none before or after.
 #[derive(Clone, Copy)]
 pub struct Move {
-    pub home: u8,
-    pub away: u8,
+    pub game: Game,
     pub from: Option<u8>,
     pub to: Option<u8>,
-    pub ghost home_team: { home < most_teams },
-    pub ghost away_team: { away < most_teams },
-    pub ghost from_slot: { ForSome from (λ k. k < most_slots) },
-    pub ghost to_slot: { ForSome to (λ k. k < most_slots) },
+    pub ghost from_slot: { byte_of from ≤ most_slots },
+    pub ghost to_slot: { byte_of to ≤ most_slots },
 }
 
 impl Move {
     ghost use Rattle.touch.specs.Touched.{MoveOf, Named, NamedToo};
 
-    // From the slot of one byte of a sheet to that of another: they count from 1, and 0 is none.
-    pub fn of(home: u8, away: u8, from: u8, to: u8) -> Self
-        requires { (home < most_teams) × (away < most_teams) × (from ≤ most_slots) × (to ≤ most_slots) }
-        ensures { MoveOf home away from to result }
+    pub fn of(game: Game, from: Option<u8>, to: Option<u8>) -> Self
+        requires { (byte_of from ≤ most_slots) × (byte_of to ≤ most_slots) }
+        ensures { MoveOf game.home game.away (byte_of from) (byte_of to) result }
     {
-        Self {
-            home,
-            away,
-            from: from.checked_sub(1),
-            to: to.checked_sub(1),
-        }
+        Self { game, from, to }
     }
 
     // The group of its teams.
     fn teams(self) -> u32
         ensures { Named result self }
     {
-        groups::one(usize::from(self.home)) | groups::one(usize::from(self.away))
+        groups::one(usize::from(self.game.home)) | groups::one(usize::from(self.game.away))
     }
 
     // The group of its teams and of those of a second move, if there is one.
+    #[tactic(auto, using(crate::proofs::Teams::named_rules))]
     pub fn teams_with(self, second: Option<Self>) -> u32
         ensures { Named result self × NamedToo result second }
     {

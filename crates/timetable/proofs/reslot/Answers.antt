@@ -3,4 +3,9 @@ use Rattle.timetable.proofs.TableSteps.{fits-reslotted}
 use Rattle.timetable.proofs.reslot.Goals as goal
 
 pub returns : goal.returns
-returns c = let r = c.requires in fits-reslotted r.0 _ _ r.2 r.3 r.1 c.take_out.ensures c.put.ensures
+returns c =
+    let r = c.requires in
+    let game = c.game-game.ensures in
+    fits-reslotted r.0 _ _ r.2 r.3 r.1
+    (rw (game.0, game.1, c.slot_of.ensures) at c.take_out.ensures)
+    (rw (game.0, game.1) at c.put.ensures)
