@@ -3,7 +3,7 @@
 use Rattle.std.proofs.lemmas.Bool.{or_parts, and_parts}
 use mathlib.Core.Path.{◌≡◌, sym, ap, ◌∙◌}
 use mathlib.Core.List.{List, [], ◌∷◌}
-use mathlib.Core.Bool.{Bool, true, false, ◌&&◌, ◌||◌, not}
+use mathlib.Core.Bool.{Bool, false, ◌&&◌, ◌||◌, not}
 use Prim.Native.Nat.{ℕ, ◌+◌, ◌≤◌}
 use native.Mathlib.Omega.{arith}
 use lib.Dec.{eqb}
@@ -14,19 +14,19 @@ use Rattle.robinx.specs.Timetable.{clash}
 use Rattle.robinx.specs.Refusals.{Sentence, sentence, first_true, of_season, of_sheet, sentence7, sentence8}
 use Rattle.robinx.specs.Calls.{Buffers, open_fault}
 use Rattle.robinx.specs.declared.Season.{Season}
-use Rattle.robinx.proofs.Passed.{none_true}
+use Rattle.robinx.proofs.Passed.{none_true, first-of-both, stays}
 use Rattle.reader.specs.Sizes.{sizes_of}
 use Rattle.season.specs.Examination.{Examination}
 use Rattle.season.specs.declared.Examined.{Examined}
 use Rattle.robinx.specs.RefusalNumbers.{number_of}
 use Rattle.robinx.specs.declared.Refusal.{Refusal}
-use Rattle.robinx.specs.declared.Refusal.TheVariants.{BufferLength}
 use Rattle.std.specs.Prelude.{Ok, Err}
 use Rattle.reader.proofs.Read.{slots_read, games-read, constraints-read}
 use Rattle.season.proofs.Found.{SoundSeason, accepted, sizes-found, refused-first, passed-on}
 use Rattle.tables.specs.declared.Tables.{Tables}
 use Rattle.timetable.specs.OfSheet.{Teams, above, Builds}
 use Rattle.admission.specs.Admission.{Admits}
+use Rattle.admission.proofs.Teams.{season-teams}
 use Rattle.admission.specs.declared.Admitted.{Admitted}
 
 -- a refusal says nothing of the tables
@@ -67,11 +67,18 @@ module _ (s : List ℕ) (b : Buffers) {r : Examined} (x : Examination (of_season
   unfolding sentence7
   seven = rw (x.found.entries, ← games-read s e, ← constraints-read s e)
 
-  pub lengths-refused : {t : Tables} → misfit ≡ true → Admits s b (Err BufferLength) t
-  unfolding first_true
-  lengths-refused h = refusal BufferLength (rest ∙ rw (seven, h))
+  abbrev seventh : List Sentence
+  seventh = sentence 7 misfit ∷ []
 
-  module _ (fit : misfit ≡ false) where
+  pub lengths-refused : {e : Refusal} {t : Tables} → number_of e ≡ first_true seventh → Admits s b (Err e) t
+  lengths-refused {e} h =
+      let eighth = sentence 8 (sentence8 (decode s) b.sheet) ∷ [] in
+      refusal e (rest ∙ rw (seven, ← stays e (first_true eighth), h) (first-of-both seventh eighth tt))
+
+  module _ (passed : 0 ≡ first_true seventh) where
+    fit : misfit ≡ false
+    fit = (none_true seventh (sym passed)).0
+
     whole : length b.sheet ≡ (decode s).G
     whole =
         let p = and_parts (eqb (length b.sheet) z.games && eqb (length b.ledger) r.entries) (eqb (length b.tally) (z.constraints + 2)) (not-false _ fit) in
@@ -93,13 +100,7 @@ module _ (s : List ℕ) (b : Buffers) {r : Examined} (x : Examination (of_season
     pub buildable : Teams most_teams (decode s).home (decode s).away × (length b.sheet ≡ length (decode s).home) × (z.slots ≤ most_slots)
     buildable =
         let ok = sound-season.sound in (
-          record {
-            few = omega arith;
-            aways-length = sound-season.aways ∙ sym sound-season.homes;
-            home-below = λ g l. omega (arith, (ok.game g (rw sound-season.homes at l)).home, ok.teams);
-            away-below = λ g l. omega (arith, (ok.game g (rw sound-season.homes at l)).away, ok.teams);
-            differ = λ g l. (ok.game g (rw sound-season.homes at l)).differ;
-          },
+          season-teams ok sound-season.homes sound-season.aways ok.teams (omega arith),
           whole ∙ sym sound-season.homes,
           omega (arith, ok.slots, slots_read s e),
         )

@@ -16,14 +16,14 @@ pub record Ready (season : List ℕ) (b : Buffers) (u : ℕ) (t : Tables) : Type
   pub count : u ≡ unplaced b.sheet (decode season).G
 
 -- what an admission finds: a call to this season that has passed them
-pub record Found (season : List ℕ) (b : Buffers) (t : Tables) (a : Admitted) : Type 0 where
+pub record IsAdmitted (season : List ℕ) (b : Buffers) (t : Tables) (a : Admitted) : Type 0 where
   pub same : a.season.bytes.now ≡ season
   pub ready : Ready season b a.unplaced t
 
 -- the number of the first true sentence, or 0 and then what was found
 pub record Admits (season : List ℕ) (b : Buffers) (r : Result Admitted Refusal) (t : Tables) : Type 0 where
   pub number : fault_of r ≡ open_fault season b
-  pub found : IfOk r (Found season b t)
+  pub found : IfOk r (IsAdmitted season b t)
 
 -- what a set or an exchange that has passed them answers and leaves
 abbrev pub after_entry : Instance → Buffers → Call → Outcome

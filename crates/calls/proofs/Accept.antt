@@ -8,24 +8,26 @@ use native.Mathlib.Omega.{arith}
 use lib.Dec.{eqb}
 use lib.ListN.{length, get_or, set, length-set}
 use lib.Seq.{get_or-set_other}
-use borrow.Author.Tests.{lt-leb, le-ltb, ne_eqb}
+use borrow.Author.Tests.{lt-leb, le-ltb, ne_eqb, not-true, not-false}
 use Rattle.std.proofs.lemmas.Bool.{or_parts}
 use Rattle.robinx.specs.Sums.{only}
 use Rattle.robinx.specs.Season.{Instance, decode, most_teams, most_slots, most_games}
 use Rattle.robinx.specs.Timetable.{clash}
+use Rattle.robinx.specs.Books.{timetable, deviations_at}
 use Rattle.robinx.specs.Refusals.{first_true, sentence9, sentence10, sentence11, sentence12, sentence13}
-use Rattle.robinx.specs.Calls.{Buffers, buffers, Call, moved, touched, outcome}
+use Rattle.robinx.specs.Calls.{Buffers, Call, moved, touched, outcome}
 use Rattle.robinx.specs.PlainSheet.{plain_fault}
 use Rattle.robinx.proofs.Sums.{term-le-sum}
 use Rattle.robinx.proofs.Passed.{Passed}
 use Rattle.robinx.proofs.Accepted.{length_moved, opens-again}
-use Rattle.robinx.proofs.Limits.{Sound, decode-home, decode-away}
+use Rattle.robinx.proofs.Limits.{Sound, decode-home}
 use Rattle.tables.specs.declared.Tables.{Tables}
-use Rattle.tables.specs.Tables.{x_of}
+use Rattle.tables.specs.Tables.{x_of, Tied}
 use Rattle.timetable.specs.OfSheet.{InRange, Fits, unplaced}
 use Rattle.timetable.proofs.Fewer.{in-range-most}
 use Rattle.timetable.proofs.FirstGames.{unplaced-set, unplaced-low}
-use Rattle.walk.specs.Walk.{Given}
+use Rattle.walk.specs.Reworked.{instance_of, lent}
+use Rattle.walk.specs.declared.books.Books.{Books}
 use Rattle.replies.specs.Reply.{reply_of}
 use Rattle.replies.specs.declared.Accepted.{Accepted}
 use Rattle.books.specs.Answer.{Answered}
@@ -45,6 +47,11 @@ passes-again s sheet L T k p e = record {
   s8 = opens-again (decode s) sheet (whole s sheet L T p).0 p.s8 k e;
 }
 
+-- The tables took the call: they are those of the sheet after it, which no sentence refuses.
+pub record Taken (m : Instance) (sheet : List ℕ) (k : Call) (t : Tables) : Type 0 where
+  pub passes : plain_fault m sheet k ≡ 0
+  pub fits : Fits most_teams true t m.home m.away (moved sheet k)
+
 -- a call that passed sentences 1 to 8 may try its tables
 module _ {s : List ℕ} {t : Tables} {b : Buffers} {u : ℕ} (r : Ready s b u t) where
   clean : Clean s b
@@ -53,11 +60,8 @@ module _ {s : List ℕ} {t : Tables} {b : Buffers} {u : ℕ} (r : Ready s b u t)
   pub range-most : InRange most_teams (decode s).home (decode s).away b.sheet
   range-most = in-range-most (range s b.sheet (length b.ledger) (length b.tally) clean)
 
-  pub as-many-games : length (decode s).home ≡ (decode s).G
+  as-many-games : length (decode s).home ≡ (decode s).G
   as-many-games = decode-home s clean.s3
-
-  pub as-many-guests : length (decode s).away ≡ (decode s).G
-  as-many-guests = decode-away s clean.s3
 
   pub as-many-slots : length b.sheet ≡ (decode s).G
   as-many-slots = (whole s b.sheet (length b.ledger) (length b.tally) clean).0
@@ -75,54 +79,65 @@ module _ {s : List ℕ} {t : Tables} {b : Buffers} {u : ℕ} (r : Ready s b u t)
   pub few-unplaced : u ≤ most_games
   few-unplaced = omega (arith, r.count, unplaced-low b.sheet (decode s).G, sizes-sound.games)
 
-  pub slot-possible : {g : ℕ} → g < (decode s).G → get_or b.sheet g 0 ≤ most_slots
-  slot-possible {g} l = range-most.slot-low g (omega (arith, as-many-games))
+  -- game g has a place in the lists, and a slot that may be
+  module _ {g : ℕ} (l : g < (decode s).G) where
+    pub in-home : g < length (decode s).home
+    in-home = omega (arith, as-many-games)
 
-  -- .. and its teams are two of the most that there may be
-  pub teams-possible : {g : ℕ} → g < (decode s).G → (get_or (decode s).home g 0 < most_teams) × (get_or (decode s).away g 0 < most_teams)
-  teams-possible {g} l =
-      let w = range-most.teams in (w.home-below g (omega (arith, as-many-games)), w.away-below g (omega (arith, as-many-games)))
+    pub in-sheet : g < length b.sheet
+    in-sheet = omega (arith, as-many-slots)
 
-  -- an accepted call: the tables are those of the sheet after it
-  module _ {t' : Tables} (k : Call) (e : plain_fault (decode s) b.sheet k ≡ 0)
-      (f : Fits most_teams true t' (decode s).home (decode s).away (moved b.sheet k)) where
+    pub slot-possible : get_or b.sheet g 0 ≤ most_slots
+    slot-possible = range-most.slot-low g in-home
+
+  module _ {t' : Tables} (k : Call) (taken : Taken (decode s) b.sheet k t') where
     again : Passed s (moved b.sheet k) (length b.ledger) (length b.tally)
-    again = passes-again s b.sheet (length b.ledger) (length b.tally) k clean e
+    again = passes-again s b.sheet (length b.ledger) (length b.tally) k clean taken.passes
 
-    pub given-after : Given s t' b.ledger b.tally
-    given-after = record {
-      sizes = again.s2;
-      rules = again.s5;
-      tied = tied s (moved b.sheet k) (length b.ledger) (length b.tally) again f;
-      ledger-length = (whole s (moved b.sheet k) (length b.ledger) (length b.tally) again).1;
-      tally-length = (whole s (moved b.sheet k) (length b.ledger) (length b.tally) again).2;
-    }
+    pub tied-after : Tied (decode s).n t'
+    tied-after = tied s (moved b.sheet k) (length b.ledger) (length b.tally) again taken.fits
 
-    pub call-is : {touch : ℕ → Bool} {u' : ℕ} {ledger' tally' : List ℕ} {a : Accepted}
-        → Answered (decode s) touch (x_of t'.meets) u' b.ledger b.tally ledger' tally' a
-        → touch ≡ touched (decode s) b.sheet k → u' ≡ unplaced (moved b.sheet k) (decode s).G
-        → outcome (reply_of (Ok a)) (buffers (moved b.sheet k) ledger' tally') ≡ after_entry (decode s) b k
-    call-is w et eu = rw e (reworked-is b k w et (same-deviations s (moved b.sheet k) (length b.ledger) (length b.tally) again f) eu)
+    deviations-after : deviations_at (decode s) (x_of t'.meets) ≡ deviations_at (decode s) (timetable (decode s) (moved b.sheet k))
+    deviations-after = same-deviations s (moved b.sheet k) (length b.ledger) (length b.tally) again taken.fits
 
--- Sentence 13 decides, once the others are passed.
-module _ (m : Instance) (sheet : List ℕ) {g b : ℕ} (lg : g < m.G) (lb : b ≤ m.P) where
-  pub set-fault-13 : clash m.home m.away (set sheet g b) ≡ true → plain_fault m sheet (Call.set_slot g b) ≡ 13
-  unfolding plain_fault first_true sentence9 sentence10 sentence13 moved
-  set-fault-13 h = rw (lt-leb m.G g lg, le-ltb m.P b lb, h)
+-- .. and the books are those of that sheet
+pub call-is : {old new : Books} {sheet : List ℕ} {u u' : ℕ} {t t' : Tables} {touch : ℕ → Bool} {a : Accepted}
+    → Ready old.season.bytes.now (lent sheet old) u t → (k : Call) → Taken (instance_of old) sheet k t' → Answered old touch (x_of t'.meets) u' new a
+    → touch ≡ touched (instance_of old) sheet k → u' ≡ unplaced (moved sheet k) (instance_of old).G
+    → outcome (reply_of (Ok a)) (lent (moved sheet k) new) ≡ after_entry (instance_of old) (lent sheet old) k
+call-is {sheet = sheet} r k taken w et eu = rw taken.passes (reworked-is sheet k w et (deviations-after r k taken) eu)
 
-  pub set-no-fault : clash m.home m.away (set sheet g b) ≡ false → plain_fault m sheet (Call.set_slot g b) ≡ 0
-  unfolding plain_fault first_true sentence9 sentence10 sentence13 moved
-  set-no-fault h = rw (lt-leb m.G g lg, le-ltb m.P b lb, h)
+-- Sentence 13 decides, once the others are passed: the tables took the call, or it has that number.
+module _ (m : Instance) (sheet : List ℕ) {g : ℕ} (lg : g < m.G) where
+  module _ {b : ℕ} (lb : b ≤ m.P) where
+    set-fault : (c : Bool) → clash m.home m.away (set sheet g b) ≡ c → plain_fault m sheet (Call.set_slot g b) ≡ only c 13
+    unfolding plain_fault first_true sentence9 sentence10 sentence13 moved
+    set-fault true h = rw (lt-leb m.G g lg, le-ltb m.P b lb, h)
+    set-fault false h = rw (lt-leb m.G g lg, le-ltb m.P b lb, h)
 
-module _ (m : Instance) (sheet : List ℕ) {g h : ℕ} (lg : g < m.G) (lh : h < m.G) (differ : g ≡ h → ⊥)
-    (placed : eqb (get_or sheet g 0) 0 || eqb (get_or sheet h 0) 0 ≡ false) where
-  pub exchange-fault-13 : clash m.home m.away (moved sheet (Call.exchange g h)) ≡ true → plain_fault m sheet (Call.exchange g h) ≡ 13
-  unfolding plain_fault first_true sentence9 sentence11 sentence12 sentence13
-  exchange-fault-13 e = rw (lt-leb m.G g lg, lt-leb m.G h lh, ne_eqb g h differ, placed, e)
+    pub set-taken : {t : Tables} → Fits most_teams true t m.home m.away (set sheet g b) → Taken m sheet (Call.set_slot g b) t
+    unfolding moved
+    set-taken f = record { passes = set-fault _ (not-true _ (sym f.no-clash)); fits = f }
 
-  pub exchange-no-fault : clash m.home m.away (moved sheet (Call.exchange g h)) ≡ false → plain_fault m sheet (Call.exchange g h) ≡ 0
-  unfolding plain_fault first_true sentence9 sentence11 sentence12 sentence13
-  exchange-no-fault e = rw (lt-leb m.G g lg, lt-leb m.G h lh, ne_eqb g h differ, placed, e)
+    pub set-busy : {t : Tables} → Fits most_teams false t m.home m.away (set sheet g b) → plain_fault m sheet (Call.set_slot g b) ≡ 13
+    set-busy f = set-fault _ (not-false _ (sym f.no-clash))
+
+  module _ {h : ℕ} (lh : h < m.G) (differ : g ≡ h → ⊥) (placed : eqb (get_or sheet g 0) 0 || eqb (get_or sheet h 0) 0 ≡ false) where
+    -- the sheet after the exchange
+    abbrev after : List ℕ
+    after = set (set sheet g (get_or sheet h 0)) h (get_or sheet g 0)
+
+    exchange-fault : (c : Bool) → clash m.home m.away after ≡ c → plain_fault m sheet (Call.exchange g h) ≡ only c 13
+    unfolding plain_fault first_true sentence9 sentence11 sentence12 sentence13 moved
+    exchange-fault true e = rw (lt-leb m.G g lg, lt-leb m.G h lh, ne_eqb g h differ, placed, e)
+    exchange-fault false e = rw (lt-leb m.G g lg, lt-leb m.G h lh, ne_eqb g h differ, placed, e)
+
+    pub exchange-taken : {t : Tables} → Fits most_teams true t m.home m.away after → Taken m sheet (Call.exchange g h) t
+    unfolding moved
+    exchange-taken f = record { passes = exchange-fault _ (not-true _ (sym f.no-clash)); fits = f }
+
+    pub exchange-busy : {t : Tables} → Fits most_teams false t m.home m.away after → plain_fault m sheet (Call.exchange g h) ≡ 13
+    exchange-busy f = exchange-fault _ (not-false _ (sym f.no-clash))
 
 -- the count of unplaced games after a set
 pub unplaced-after-set : (sheet : List ℕ) (g b G : ℕ) {u left from to : ℕ} → g < G → length sheet ≡ G → u ≡ unplaced sheet G

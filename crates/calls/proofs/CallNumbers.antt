@@ -17,7 +17,7 @@ use Rattle.robinx.specs.PlainSheet.{plain_fault}
 use Rattle.robinx.specs.RefusalNumbers.{number_of}
 use Rattle.robinx.specs.declared.Refusal.{Refusal}
 use Rattle.robinx.specs.declared.Season.{Season}
-use Rattle.robinx.proofs.Passed.{or_else, none_true, first-of-both, never-0}
+use Rattle.robinx.proofs.Passed.{or_else, none_true, first-of-both, never-0, stays}
 use Rattle.reader.specs.Sizes.{sizes_of}
 use Rattle.reader.proofs.Read.{games-read, slots_read}
 use Rattle.replies.specs.Reply.{reply_of}
@@ -32,10 +32,6 @@ declined-is (suc f) done some = refl
 pub refusal_is : {b : Buffers} (r : Refusal) (done : Outcome) → outcome (reply_of (Err r)) b ≡ unless_refused (number_of r) done b
 refusal_is r done = declined-is (number_of r) done (never-0 r)
 
-pub first-stands : (f rest : ℕ) → (f ≡ 0 → ⊥) → or_else f rest ≡ f
-first-stands zero rest some = absurd (some refl)
-first-stands (suc f) rest some = refl
-
 -- sentence 13, for the sheet after a call
 abbrev fault13 : List ℕ → Buffers → Call → ℕ
 fault13 s b k = first_true (sentence 13 (sentence13 (decode s) (moved b.sheet k)) ∷ [])
@@ -43,7 +39,7 @@ fault13 s b k = first_true (sentence 13 (sentence13 (decode s) (moved b.sheet k)
 -- the others of a call have this number
 refused-by : (s : List ℕ) (b : Buffers) (k : Call) (r : Refusal) → plain_fault (decode s) b.sheet k ≡ or_else (number_of r) (fault13 s b k)
     → outcome (reply_of (Err r)) b ≡ after_entry (decode s) b k
-refused-by s b k r split = rw (split, first-stands (number_of r) (fault13 s b k) (never-0 r)) (refusal_is r _)
+refused-by s b k r split = rw (split, stays r (fault13 s b k)) (refusal_is r _)
 
 module _ (s : List ℕ) {z : Season} (e : z ≡ sizes_of s) (b : Buffers) (g : ℕ) where
   module _ (slot : ℕ) {f : ℕ} (is : f ≡ first_true (set_numbers z g slot)) where

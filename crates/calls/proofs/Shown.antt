@@ -18,6 +18,7 @@ use Rattle.tables.specs.declared.Tables.{Tables}
 use Rattle.tables.specs.Tables.{x_of, Tied}
 use Rattle.timetable.specs.OfSheet.{Shows, InRange, Fits, unplaced}
 use Rattle.timetable.proofs.Fewer.{shows-for}
+use Rattle.admission.proofs.Teams.{season-teams}
 
 module _ (s sheet : List ℕ) (L T : ℕ) (p : Passed s sheet L T) where
   abbrev m : Instance
@@ -33,13 +34,7 @@ module _ (s sheet : List ℕ) (L T : ℕ) (p : Passed s sheet L T) where
   range =
       let h = decode-home s p.s3 in
       record {
-        teams = record {
-          few = is-sound.teams;
-          aways-length = decode-away s p.s3 ∙ sym h;
-          home-below = λ g l. (is-sound.game g (rw h at l)).home;
-          away-below = λ g l. (is-sound.game g (rw h at l)).away;
-          differ = λ g l. (is-sound.game g (rw h at l)).differ;
-        };
+        teams = season-teams is-sound h (decode-away s p.s3) (omega arith) is-sound.teams;
         sheet-length = whole.0 ∙ sym h;
         slot-low = λ g l. omega (arith, low m sheet whole.0 p.s8 g (rw h at l), is-sound.slots);
       }

@@ -6,13 +6,13 @@ use Prim.Native.Nat.{ℕ}
 use lib.ListN.{length}
 use borrow.Author.Tests.{eqb-true, not-false}
 use Rattle.robinx.specs.Season.{decode, season_length}
-use Rattle.std.proofs.Common.{Ok, Err, arith}
+use Rattle.std.proofs.Common.{Ok, Err}
 use Rattle.robinx.specs.Refusals.{Sentence, sentence3, first_true, of_season}
 use Rattle.robinx.specs.RefusalNumbers.{number_of}
 use Rattle.robinx.specs.declared.Refusal.{Refusal}
 use Rattle.robinx.specs.declared.Season.{Season}
 use Rattle.robinx.proofs.Limits.{Sound, sound, decode-home, decode-away}
-use Rattle.robinx.proofs.Passed.{none_true, or_else, first-of-both}
+use Rattle.robinx.proofs.Passed.{none_true, first-of-both, stays}
 use Rattle.season.specs.declared.Examined.{Examined}
 use Rattle.season.specs.Examination.{Found, Examination}
 use Rattle.reader.specs.Sizes.{sizes_of, Measured}
@@ -23,9 +23,7 @@ pub measured : (s : List ℕ) {z : Season} → z ≡ sizes_of s → sentence3 s 
 unfolding sentence3
 measured s e h = record { sizes = e; whole = eqb-true (length s) (season_length s) (not-false _ h) ∙ length-asked s e }
 
-pub ruleset examined = (measured, sizes-tested)
-
-pub ruleset meetings = (in-range, right-length, as_many, teams-read, games-alone)
+pub ruleset examined = (measured, sizes-tested, length-asked, in-range, right-length, as_many, teams-read, games-alone)
 
 -- What an accepted season gives its callers; `Sound` has the ranges of sizes, teams and constraints.
 pub record SoundSeason (s : List ℕ) : Type 0 where
@@ -43,10 +41,6 @@ no-fault s h =
       aways = decode-away s c.1.1.0;
       measured = λ e. measured s e c.1.1.0;
     }
-
--- a refusal has a number
-stays : (r : Refusal) (n : ℕ) → or_else (number_of r) n ≡ number_of r
-stays r n = grind arith
 
 -- What an examination tells of the season's sentences with others behind them.
 module _ (s : List ℕ) (l : List Sentence) where

@@ -4,12 +4,14 @@
 
 ghost use Rattle.std.specs.Prelude.{◌≡◌, false, ◌∷◌, []};
 ghost use Rattle.robinx.specs.Season.{decode};
-ghost use Rattle.robinx.specs.Refusals.{sentence, sentence3, sentence4, sentence5, of_season};
-ghost use Rattle.reader.specs.Sizes.{sizes_of, out_of_range};
+ghost use Rattle.robinx.specs.Refusals.{sentence, sentence5, first_true, of_season};
+ghost use Rattle.robinx.specs.RefusalNumbers.{fault_of};
+ghost use Rattle.reader.specs.Sizes.{out_of_range};
 ghost use Rattle.season.specs.Examination.{Examination};
 
 use reader::view::SeasonView;
 use robinx::{Refusal, Season};
+use rules::dimensions::Dimensions;
 
 // What the examination of an accepted season finds: the season with its sizes, and the number of deviations.
 #[derive(Clone, Copy)]
@@ -19,32 +21,19 @@ pub struct Examined<'a> {
 }
 
 // Sentence 2.
-#[tactic(auto, unfolding(reader::specs::Sizes::out_of_range))]
-pub fn sizes_bad(z: Season) -> bool
-    ensures { result ≡ out_of_range z }
+#[tactic(auto, unfolding(reader::specs::Sizes::out_of_range, robinx::specs::Refusals::first_true))]
+pub fn check_sizes(z: Season) -> Result<(), Refusal>
+    ensures { fault_of result ≡ first_true (sentence 2 (out_of_range z) ∷ []) }
 {
-    !((2..=Season::TEAMS).contains(&z.teams)
+    if (2..=Season::TEAMS).contains(&z.teams)
         && (1..=Season::SLOTS).contains(&z.slots)
         && z.games <= Season::GAMES
-        && z.constraints <= Season::CONSTRAINTS)
-}
-
-// Sentence 3.
-#[tactic(auto, using(reader::proofs::Read::ranges, reader::proofs::Read::asked), unfolding(robinx::specs::Refusals::sentence3))]
-fn length_bad(season: &[u8], z: Season) -> bool
-    requires { (z ≡ sizes_of season.now) × (out_of_range z ≡ false) }
-    ensures { result ≡ sentence3 season.now }
-{
-    season.len() != 6 + 2 * z.games + 24 * z.constraints
-}
-
-// Sentence 4.
-#[tactic(auto, using(crate::proofs::Found::meetings))]
-fn meetings_bad(season: SeasonView) -> bool
-    requires { out_of_range season.sizes ≡ false }
-    ensures { result ≡ sentence4 (decode season.entry.bytes.now) }
-{
-    games::games_bad(season.homes(), season.aways(), season.sizes.teams)
+        && z.constraints <= Season::CONSTRAINTS
+    {
+        Ok(())
+    } else {
+        Err(Refusal::SizeOutOfRange)
+    }
 }
 
 // Sentence 5 and the number of deviations, up to a constraint that breaks a rule.
@@ -52,9 +41,14 @@ fn examine_constraints<'a>(season: SeasonView<'a>) -> Result<Examined<'a>, Refus
     requires { out_of_range season.sizes ≡ false }
     ensures { Examination (sentence 5 (sentence5 (decode season.entry.bytes.now)) ∷ []) season.entry.bytes.now result }
 {
+    let dimensions = Dimensions {
+        teams: season.sizes.teams,
+        slots: season.sizes.slots,
+    };
     let mut entries = 0;
+    // a `for` that returns at the first breach reads plainer than a `try_fold` whose closure carries the sum
     for c in season.constraints() {
-        if !kind_rules::obeys(c, season.sizes) {
+        if !kind_rules::obeys(c, dimensions) {
             return Err(Refusal::BadConstraint);
         }
         entries += kinds::entries_of(c);
@@ -71,18 +65,14 @@ pub fn examine<'a>(season: &'a [u8]) -> Result<Examined<'a>, Refusal>
         return Err(Refusal::ShortSeason);
     }
     let z = reader::sizes(season);
-    if sizes_bad(z) {
-        return Err(Refusal::SizeOutOfRange);
-    }
-    if length_bad(season, z) {
+    check_sizes(z)?;
+    if season.len() != z.length() {
         return Err(Refusal::SeasonLength);
     }
     let view = SeasonView {
         bytes: season,
         sizes: z,
     };
-    if meetings_bad(view) {
-        return Err(Refusal::BadGame);
-    }
+    games::examine(view.homes(), view.aways(), z.teams)?;
     examine_constraints(view)
 }

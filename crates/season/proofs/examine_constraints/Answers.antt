@@ -20,8 +20,8 @@ loop-c-init c =
     let new = c.constraints-c-items.ensures in
     record { same = rw e new.0; kept = rw (e, new.1) (kept-none (decode c.args.season.bytes.now)) }
 
-pub obeys-requires : goal.obeys-requires
-obeys-requires c = omega (arith, in-range c.args.season.sizes c.requires)
+pub invariant_of-dimensions : goal.invariant_of-dimensions
+invariant_of-dimensions c = record { in_range = omega (arith, in-range c.args.season.sizes c.requires) }
 
 pub returns-then-not-obeys : goal.returns-then-not-obeys
 returns-then-not-obeys c =
