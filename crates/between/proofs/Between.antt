@@ -1,32 +1,30 @@
 -- Games between two groups are the games that each team hosts against the opponents counted for it. Assumes nothing.
 use Rattle.std.proofs.lemmas.Nat.Bits.{bit_at-zero}
 use mathlib.Core.Path.{◌≡◌, refl, sym, ap, ap₂, ◌∙◌}
-use mathlib.Core.List.{List, [], ◌∷◌, map-id}
+use mathlib.Core.List.{List, ◌∷◌, map-id}
 use mathlib.Core.Bool.{Bool, true, false, ◌&&◌, ◌||◌, and_assoc, and_comm}
 use Prim.Native.Nat.{ℕ, zero, suc, ◌+◌, ◌^◌, ◌<◌, ◌≤◌}
 use native.Mathlib.Omega.{arith}
 use native.Mathlib.Nat.{add-zero}
 use native.Mathlib.Numerals.{add-one}
 use lib.Bits.{or_lt}
-use lib.ListN.{length, get_or, set}
+use lib.ListN.{length, get_or}
 use Rattle.std.specs.List.{sum_by, range_with_len}
 use Rattle.std.proofs.lemmas.List.FromFn.{sum_by-map-range_with_len_more}
 use Rattle.std.proofs.lemmas.List.Recursion.{is_sum_by}
-use Rattle.robinx.specs.Season.{most_slots, slots_of}
+use Rattle.robinx.specs.Season.{most_slots}
 use Rattle.robinx.specs.Sums.{sum_to, only}
 use Rattle.robinx.specs.Groups.{bit, has}
 use Rattle.robinx.specs.Timetable.{X, home_side, games_with, games_against, between, games_between}
-use Rattle.robinx.specs.Deviations.{over, outside}
-use Rattle.robinx.proofs.Sums.{sum-shift, sum-zero, sum-swap, sum-le, sum_bound, only-le}
+use Rattle.robinx.specs.Deviations.{over}
+use Rattle.robinx.proofs.Sums.{only_sum, sum-shift, sum-swap, sum-le, sum_bound, only-le}
 use Rattle.robinx.proofs.Ext.{sum-ext}
 use Rattle.robinx.specs.declared.Constraint.{Constraint}
-use Rattle.robinx.proofs.Filled.{filled-one}
 use Rattle.robinx.proofs.Bits.{or-has}
 use Rattle.tables.specs.declared.Tables.{Tables}
 use Rattle.tables.specs.Tables.{x_of}
 use Rattle.opponents.specs.Checkable.{Checkable}
 use Rattle.between.specs.Between.{guests, hosts, MasksOf}
-use Rattle.opponents.proofs.Checkable.{over-slots}
 
 only-has : (b : Bool) (m k : ℕ) → has (only b m) k ≡ b && has m k
 only-has true m k = refl
@@ -55,14 +53,10 @@ hosts-against n x d T1 T2 i k =
     sum-ext n (λ j l. ap₂ only (guests-has d T1 T2 i j) (add-zero (x i j k)))
 
 -- a sum over slots of sums over teams, the other way round
-only_sum : (b : Bool) (f : ℕ → ℕ) (n : ℕ) → only b (sum_to f n) ≡ sum_to (λ i. only b (f i)) n
-only_sum true f n = refl
-only_sum false f n = sym (sum-zero n (λ i l. refl))
-
 pub over-sum : (P S : ℕ) (f : ℕ → ℕ → ℕ) (n : ℕ) → over P S (λ k. sum_to (λ i. f i k) n) ≡ sum_to (λ i. over P S (f i)) n
 unfolding over
 over-sum P S f n =
-    sum-ext P (λ k l. only_sum (has S k) (λ i. f i k) n) ∙ sum-swap (λ k i. only (has S k) (f i k)) P n
+    sum-ext P (λ k l. sym (only_sum (has S k) (λ i. f i k) n)) ∙ sum-swap (λ k i. only (has S k) (f i k)) P n
 
 -- all counted games in S
 pub hosted-over : (n : ℕ) (x : X) (d T1 T2 S : ℕ)
@@ -104,11 +98,3 @@ pub columns-between : (n : ℕ) (x : X) (d T1 T2 : ℕ) {words : List ℕ} → l
     → (k : ℕ) → k < most_slots → sum_by (λ word. bit word k) words ≡ games_between n x d T1 T2 k
 unfolding games_between hosts
 columns-between n x d T1 T2 {words} e h k l = rw (← sum_to-places (λ word. bit word k) words, e) (sum-ext n (λ i li. h.mask i li k l))
-
--- The constraint's own groups.
-module _ {n P : ℕ} {c : Constraint} {ts : Tables} (r : Checkable n P c ts) where
-  pub one-figure : (out : List ℕ) (x : X) (d : ℕ) {g v : ℕ} → length out ≡ 1
-      → g ≡ over most_slots (slots_of c) (games_between n x d c.t1 c.t2) → v ≡ outside c.kmin c.kmax g
-      → set out 0 v ≡ outside c.kmin c.kmax (over P (slots_of c) (games_between n x d c.t1 c.t2)) ∷ []
-  one-figure out x d {g} {v} l e f =
-      filled-one out v l ∙ ap (λ (w : ℕ). w ∷ []) (f ∙ ap (outside c.kmin c.kmax) (e ∙ over-slots r _))

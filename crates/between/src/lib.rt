@@ -2,7 +2,7 @@
 
 #![tactic(auto)]
 
-ghost use Rattle.std.specs.Prelude.{◌≡◌, ◌<◌, ◌≤◌, length};
+ghost use Rattle.std.specs.Prelude.{◌≡◌, ◌<◌, ◌≤◌, ◌^◌, length};
 ghost use Rattle.std.specs.List.{sum_by};
 ghost use Rattle.robinx.specs.Season.{most_teams, most_slots, slots_of};
 ghost use Rattle.robinx.specs.Groups.{bit, size};
@@ -13,10 +13,12 @@ ghost use Rattle.robinx.specs.Deviations.{each, over, outside, dev_ca4, dev_ga1}
 ghost use Rattle.opponents.specs.Figures.{HasRoom, of_check};
 ghost use Rattle.opponents.specs.Games.{MaskOf};
 ghost use Rattle.opponents.specs.Sides.{code_of};
-ghost use Rattle.between.specs.Between.{guests, hosts, MasksOf, of_meetings};
+ghost use Rattle.between.specs.Between.{guests, hosts, MasksOf, of_meetings, one_figure};
 
+use groups::fill::fill;
 use opponents::check::Check;
-use opponents::measure::{Sides, outside};
+use opponents::measure::Sides;
+use robinx::range::CountRange;
 use robinx::{Season, Slots};
 
 // The games that a team of T1 plays on one of the sides against a team of T2, the groups of the check's constraint.
@@ -33,9 +35,9 @@ impl Meetings<'_> {
         ensures { result ≡ guests (code_of self.entry.sides) self.entry.check.now.constraint.t1 self.entry.check.now.constraint.t2 i }
     {
         let c = self.check.constraint;
-        let of_home = (self.sides.asks_home() && groups::is_in(c.t1, i)).then_some(c.t2);
-        let of_away = (self.sides.asks_away() && groups::is_in(c.t2, i)).then_some(c.t1);
-        of_home.unwrap_or(0) | of_away.unwrap_or(0)
+        let of_home = self.sides.asks_home() && groups::is_in(c.t1, i);
+        let of_away = self.sides.asks_away() && groups::is_in(c.t2, i);
+        (if of_home { c.t2 } else { 0 }) | (if of_away { c.t1 } else { 0 })
     }
 
     // The slots of these games.
@@ -63,6 +65,14 @@ impl Meetings<'_> {
             .sum()
     }
 
+    // One figure: how far all games in S are outside kmin .. kmax.
+    fn fill_one(self, out: &mut [u32])
+        requires { length out.old ≡ 1 }
+        ensures { out.new ≡ of_check one_figure self.entry.check.now (code_of self.entry.sides) }
+    {
+        out[0] = self.check.constraint.range().outside(self.games_in());
+    }
+
     // The mask of each team's games of `hosted`, a word for each team.
     fn lay_hosted(self, words: &mut [Slots])
         requires { length words.old ≡ self.check.now.sizes.teams }
@@ -86,17 +96,17 @@ fn column(words: &[Slots], k: usize) -> u32
 }
 
 // One figure a slot of s, from the masks' columns.
-fn fill_columns(kmin: u8, kmax: u8, s: Slots, p: usize, words: &[Slots], out: &mut [u32])
-    requires { (length words.now ≤ most_teams) × (p ≤ most_slots) × (length out.old ≡ size p s) }
-    ensures { out.new ≡ each p s (λ k. outside kmin kmax (sum_by (λ word. bit word k) words.now)) }
+fn fill_columns(range: CountRange, s: Slots, p: usize, words: &[Slots], out: &mut [u32])
+    requires words { length words.now ≤ most_teams }
+    requires slots { (p ≤ most_slots) × (s < 2 ^ p) }
+    requires room { length out.old ≡ size p s }
+    ensures { out.new ≡ each p s (λ k. outside range.low range.high (sum_by (λ word. bit word k) words.now)) }
 {
-    // by place: of what a zip of `iter_mut` wrote, the library says nothing once the loop is over
-    for (at, k) in (0..p).filter(|&k| masks::is_in(s, k)).enumerate() {
-        out[at] = outside(kmin, kmax, column(words, k));
-    }
+    fill(masks::slots_in(s), |k| range.outside(column(words, k)), out);
 }
 
 // CA4.
+#[tactic(auto, using(opponents::proofs::Checkable::check_rules))]
 pub fn fill_ca4(check: &Check, out: &mut [u32])
     requires { HasRoom check.now out.old × (kind_of check.now.constraint.kind ≡ Ca4) }
     ensures { out.new ≡ of_check dev_ca4 check.now }
@@ -107,24 +117,25 @@ pub fn fill_ca4(check: &Check, out: &mut [u32])
         sides: Sides::of_mode(c.mode),
     };
     if c.first_modes() {
-        out[0] = outside(c.kmin, c.kmax, games.games_in());
+        games.fill_one(out);
         return;
     }
+    // words for all teams, since there is no heap
     let mut all = [masks::NONE; Season::TEAMS];
     let words = &mut all[..check.sizes.teams];
     games.lay_hosted(words);
-    fill_columns(c.kmin, c.kmax, c.s, check.sizes.slots, words, out);
+    fill_columns(c.range(), c.s, check.sizes.slots, words, out);
 }
 
 // GA1: CA4's games of the home side.
+#[tactic(auto, using(opponents::proofs::Checkable::check_rules), unfolding(robinx::specs::Kinds::form_of, robinx::specs::Deviations::dev_ga1))]
 pub fn fill_ga1(check: &Check, out: &mut [u32])
     requires { HasRoom check.now out.old × (kind_of check.now.constraint.kind ≡ Ga1) }
     ensures { out.new ≡ of_check dev_ga1 check.now }
 {
-    let c = check.constraint;
-    let hosted = Meetings {
+    let games = Meetings {
         check,
         sides: Sides::Home,
     };
-    out[0] = outside(c.kmin, c.kmax, hosted.games_in());
+    games.fill_one(out);
 }

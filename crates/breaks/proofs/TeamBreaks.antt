@@ -39,9 +39,9 @@ module _ {n : ℕ} {ts : Tables} (tied : Tied n ts) (t : ℕ) (lt : t < n) where
   a = get_or ts.away t 0
 
   -- what a count of both sides' breaks asks for
-  pub asked-sides : (p q : Bool) {home away all : ℕ} → home ≡ only p h → away ≡ only q a → all ≡ bit_or h a
+  pub asked-sides : (p q : Bool) {home away all : ℕ} → (home ≡ only p h) × (away ≡ only q a) → all ≡ bit_or h a
       → Within home all × Within away all × Apart home away
-  asked-sides p q eh ea eu = rw (eh, ea, eu) (
+  asked-sides p q (eh, ea) eu = rw (eh, ea, eu) (
     λ k. omega (arith, asked-le p h k, bit_at_or h a k),
     λ k. omega (arith, asked-le q a k, bit_at_or h a k),
     λ k l. omega (arith, asked-le p h k, asked-le q a k, tied.once t k lt l),

@@ -13,13 +13,14 @@ ghost use Rattle.robinx.specs.Deviations.{off_target, breaks, dev_br1, dev_br2};
 ghost use Rattle.opponents.specs.Figures.{of_check, HasRoom};
 
 use groups::fill::{fill_each, total};
-use masks::{breaks_of, union};
+use masks::union;
+use opponents::asked;
 use opponents::check::Check;
 use opponents::measure::Sides;
-use opponents::{away, home};
 use robinx::Constraint;
 
 // A team's breaks of the mode's sides in S. A side that is not asked for has no games here, and so no breaks.
+#[tactic(auto, using(opponents::proofs::Checkable::check_rules))]
 fn team_breaks(check: &Check, t: usize) -> u32
     requires { t < check.now.sizes.teams }
     ensures { (result ≡ of_check breaks check.now t) × (result ≤ 2 * most_slots) }
@@ -27,8 +28,8 @@ fn team_breaks(check: &Check, t: usize) -> u32
     let sides = Sides::of_mode(check.constraint.mode);
     let tables = check.tables;
     let all = union(tables.home[t], tables.away[t]);
-    let s = check.constraint.s;
-    breaks_of(home(tables, sides, t), away(tables, sides, t), all, s)
+    let asked = asked(tables, sides, t);
+    asked.breaks(all, check.constraint.s)
 }
 
 // How far a count of breaks is off kmax: modes 1 to 3 allow fewer.
@@ -43,7 +44,8 @@ fn off_target(c: Constraint, v: u32) -> u32
     }
 }
 
-// The deviations of BR1, from one team of the group to the next.
+// The deviations of BR1.
+#[tactic(auto, using(opponents::proofs::Checkable::check_rules), unfolding(robinx::specs::Kinds::form_of))]
 pub fn fill_breaks(check: &Check, out: &mut [u32])
     requires { HasRoom check.now out.old × (kind_of check.now.constraint.kind ≡ Br1) }
     ensures { out.new ≡ of_check dev_br1 check.now }
@@ -53,6 +55,7 @@ pub fn fill_breaks(check: &Check, out: &mut [u32])
 }
 
 // The breaks of all teams of the group.
+#[tactic(auto, using(opponents::proofs::Checkable::check_rules))]
 fn group_breaks(check: &Check) -> u32
     ensures { result ≡ sum_to (λ t. only (has check.now.constraint.t1 t) (of_check breaks check.now t)) check.now.sizes.teams }
 {
@@ -60,6 +63,7 @@ fn group_breaks(check: &Check) -> u32
 }
 
 // The deviation of BR2.
+#[tactic(auto, using(opponents::proofs::Checkable::check_rules), unfolding(robinx::specs::Kinds::form_of, robinx::specs::Deviations::dev_br2))]
 pub fn fill_all_breaks(check: &Check, out: &mut [u32])
     requires { HasRoom check.now out.old × (kind_of check.now.constraint.kind ≡ Br2) }
     ensures { out.new ≡ of_check dev_br2 check.now }

@@ -1,21 +1,10 @@
 -- What CA1, CA2 and CA3 make of a team's games.
-use Rattle.std.specs.Prelude.{◌≡◌, ◌⊎◌, ℕ, suc, ◌-◌, ◌^◌}
+use Rattle.std.specs.Prelude.{ℕ, suc, ◌-◌}
 use Rattle.robinx.specs.Season.{slots_of}
 use Rattle.robinx.specs.Sums.{sum_to}
 use Rattle.robinx.specs.Timetable.{X, side, games_against}
 use Rattle.robinx.specs.Deviations.{over, outside, in_run}
-use Rattle.robinx.specs.declared.Kind.{Kind}
-use Rattle.robinx.specs.declared.Kind.TheVariants.{Ca1, Ca2}
 use Rattle.robinx.specs.declared.Constraint.{Constraint}
-
--- the kinds that count over S
-abbrev pub IsCountKind : Kind → Type 0
-IsCountKind k = (k ≡ Ca1) ⊎ (k ≡ Ca2)
-
--- the teams against which games count: all in CA1, else T2
-abbrev pub rivals : Kind → ℕ → Constraint → ℕ
-rivals Ca1 n c = 2 ^ n - 1
-rivals k n c = c.t2
 
 -- the games of team t against the group T that count, in slot k
 abbrev pub counted : ℕ → ℕ → Constraint → X → ℕ → ℕ → ℕ → ℕ

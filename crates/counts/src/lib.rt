@@ -2,34 +2,24 @@
 
 #![tactic(auto)]
 
-ghost use Rattle.std.specs.Prelude.{◌≡◌, ◌<◌, ◌^◌};
+ghost use Rattle.std.specs.Prelude.{◌≡◌, ◌<◌, ◌^◌, length};
+ghost use Rattle.std.specs.Int.Count.{ones};
 ghost use Rattle.robinx.specs.Kinds.{kind_of};
-ghost use Rattle.robinx.specs.declared.Kind.TheVariants.{Ca3};
-ghost use Rattle.robinx.specs.Deviations.{deviations};
+ghost use Rattle.robinx.specs.declared.Kind.TheVariants.{Ca1, Ca2, Ca3};
+ghost use Rattle.robinx.specs.Deviations.{each, dev_ca1, dev_ca2, dev_ca3};
 ghost use Rattle.opponents.specs.Figures.{of_check, HasRoom};
 ghost use Rattle.opponents.specs.Games.{MaskOf};
-ghost use Rattle.counts.specs.TeamCounts.{IsCountKind, rivals, counted, off_count, off_runs};
+ghost use Rattle.counts.specs.TeamCounts.{counted, off_count, off_runs};
 
 use groups::fill::fill_each;
 use masks::count_in;
 use opponents::check::Check;
-use opponents::measure::{Sides, outside};
-use robinx::{Kind, Slots};
+use opponents::measure::Sides;
+use robinx::Slots;
 use rows::mask_runs;
 
-// The teams against which games count: all of them in CA1, those of T2 in CA2 and CA3.
-fn rivals(check: &Check) -> u32
-    ensures chosen { result ≡ rivals (kind_of check.now.constraint.kind) check.now.sizes.teams check.now.constraint }
-    ensures small { result < 2 ^ check.now.sizes.teams }
-{
-    let c = check.constraint;
-    match Kind::from(c.kind) {
-        Kind::Ca1 => groups::everyone(check.sizes.teams),
-        _ => c.t2,
-    }
-}
-
 // The slots of a team's games against the rivals that count.
+#[tactic(auto, using(opponents::proofs::Checkable::check_rules))]
 fn counted(check: &Check, rivals: u32, t: usize) -> Slots
     requires { (t < check.now.sizes.teams) × (rivals < 2 ^ check.now.sizes.teams) }
     ensures { MaskOf (of_check counted check.now rivals t) result }
@@ -44,19 +34,39 @@ fn team_count(check: &Check, rivals: u32, t: usize) -> u32
 {
     let c = check.constraint;
     let games = count_in(counted(check, rivals, t), c.s);
-    outside(c.kmin, c.kmax, games)
+    c.range().outside(games)
 }
 
-// The deviations of CA1 and of CA2.
-pub fn fill_counts(check: &Check, out: &mut [u32])
-    requires { HasRoom check.now out.old × IsCountKind (kind_of check.now.constraint.kind) }
-    ensures { out.new ≡ of_check deviations check.now }
+// .. of each team.
+#[tactic(auto, using(opponents::proofs::Checkable::check_rules))]
+fn fill_counts(check: &Check, rivals: u32, out: &mut [u32])
+    requires room { length out.old ≡ ones check.now.constraint.t1 }
+    requires rivals { rivals < 2 ^ check.now.sizes.teams }
+    ensures { out.new ≡ each check.now.sizes.teams check.now.constraint.t1 (of_check off_count check.now rivals) }
 {
-    let rivals = rivals(check);
     fill_each(check.constraint.t1, |t| team_count(check, rivals, t), out);
 }
 
+// CA1: the games against all teams.
+#[tactic(auto, using(opponents::proofs::Checkable::check_rules), unfolding(robinx::specs::Kinds::form_of))]
+pub fn fill_ca1(check: &Check, out: &mut [u32])
+    requires { HasRoom check.now out.old × (kind_of check.now.constraint.kind ≡ Ca1) }
+    ensures { out.new ≡ of_check dev_ca1 check.now }
+{
+    fill_counts(check, groups::everyone(check.sizes.teams), out);
+}
+
+// CA2: those against T2.
+#[tactic(auto, using(opponents::proofs::Checkable::check_rules), unfolding(robinx::specs::Kinds::form_of, robinx::specs::Deviations::dev_ca2))]
+pub fn fill_ca2(check: &Check, out: &mut [u32])
+    requires { HasRoom check.now out.old × (kind_of check.now.constraint.kind ≡ Ca2) }
+    ensures { out.new ≡ of_check dev_ca2 check.now }
+{
+    fill_counts(check, check.constraint.t2, out);
+}
+
 // How far a team's counts in the runs of w slots are outside kmin .. kmax, summed. There are no runs if w is more than all slots.
+#[tactic(auto, using(opponents::proofs::Checkable::check_rules))]
 fn team_runs(check: &Check, t: usize) -> u32
     requires { t < check.now.sizes.teams }
     ensures { result ≡ of_check off_runs check.now t }
@@ -64,13 +74,14 @@ fn team_runs(check: &Check, t: usize) -> u32
     let c = check.constraint;
     let w = usize::from(c.w);
     let runs = (check.sizes.slots + 1).saturating_sub(w);
-    mask_runs(counted(check, c.t2, t), w, c.kmin, c.kmax, runs)
+    mask_runs(counted(check, c.t2, t), w, c.range(), runs)
 }
 
-// The deviations of CA3.
-pub fn fill_runs(check: &Check, out: &mut [u32])
+// CA3: those against T2 in each run of w slots.
+#[tactic(auto, using(opponents::proofs::Checkable::check_rules), unfolding(robinx::specs::Kinds::form_of))]
+pub fn fill_ca3(check: &Check, out: &mut [u32])
     requires { HasRoom check.now out.old × (kind_of check.now.constraint.kind ≡ Ca3) }
-    ensures { out.new ≡ of_check deviations check.now }
+    ensures { out.new ≡ of_check dev_ca3 check.now }
 {
     fill_each(check.constraint.t1, |t| team_runs(check, t), out);
 }

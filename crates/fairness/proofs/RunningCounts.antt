@@ -4,9 +4,9 @@ use mathlib.Core.List.{List, [], ◌∷◌}
 use mathlib.Core.Bool.{false, true≢false}
 use Prim.Native.Nat.{ℕ, suc, ◌+◌, ◌-◌, ◌^◌, ◌<◌, ◌≤◌}
 use native.Mathlib.Omega.{arith}
+use native.Mathlib.Decide.{ℕ_discrete}
 use lib.ListN.{length, get_or, set, length-set}
 use lib.Seq.{get_or-set_same, get_or-set_other}
-use borrow.Author.Count.{below_more}
 use Rattle.robinx.specs.Season.{most_teams, most_slots, slots_of}
 use Rattle.robinx.specs.Sums.{sum_to, list_to, dist}
 use Rattle.robinx.specs.Groups.{has}
@@ -15,9 +15,9 @@ use Rattle.robinx.specs.Deviations.{worst}
 use Rattle.robinx.proofs.Sums.{sum-add}
 use Rattle.robinx.proofs.Bounds.{games_up_to-le}
 use Rattle.robinx.proofs.Ext.{sum-ext, cat-ext}
-use Rattle.groups.specs.declared.Members.{Members}
-use Rattle.groups.specs.MemberWalk.{Ahead, From, Step}
-use Rattle.groups.proofs.MemberWalk.{to-next, to_end}
+use Rattle.bits.specs.SetBits.{Lowest}
+use Rattle.bits.proofs.Lowest.{Part, whole, part-left, taken-below}
+use Rattle.bits.proofs.Figures.{bare}
 use Rattle.tables.specs.Tables.{x_of}
 use Rattle.rows.specs.Rows.{Holds, marked, up_to}
 use Rattle.rows.proofs.Rows.{list-holds, farthest-ext, farthest-of, worst-less}
@@ -46,41 +46,34 @@ pub apart-worst : (e : List ℕ) (kmax : ℕ) (f g : ℕ → ℕ) (S P : ℕ) �
 apart-worst e kmax f g S P h l he small =
     ap (λ (v : ℕ). v - kmax) (farthest-of e f g S P h l he small) ∙ sym (worst-less P S (λ k. dist (f k) (g k)) kmax)
 
--- The rows of the members passed are laid.
-pub record CountedPassed (k : Check) (d : ℕ) (m : Members) (table : List (List ℕ)) : Type 0 where
-  pub ahead : Ahead k.sizes.teams k.constraint.t1 m
+-- The rows of the members of T1 are laid, but for those in w, which are left.
+pub record CountedPassed (k : Check) (d w : ℕ) (table : List (List ℕ)) : Type 0 where
+  pub part : Part w k.constraint.t1
   pub long : length table ≡ most_teams
-  pub rows : Counted k d table m.at
+  pub rows : (t : ℕ) → has w t ≡ false → CountedAt k d table t
 
-module _ {k : Check} {d : ℕ} {m : Members} {table : List (List ℕ)} where
-  pub counted-start : From k.constraint.t1 0 m → length table ≡ most_teams → CountedPassed k d m table
-  counted-start s p = record {
-    ahead = s.ahead k.sizes.teams k.checkable.teams (limits k.checkable).t1 (omega arith);
-    long = p;
-    rows = rw s.place (record { row = λ t l. absurd (omega arith) });
-  }
+module _ {k : Check} {d : ℕ} {table : List (List ℕ)} where
+  pub counted-start : length table ≡ most_teams → CountedPassed k d k.constraint.t1 table
+  counted-start p = record { part = whole k.constraint.t1; long = p; rows = λ t e b. absurd (true≢false (sym b ∙ e)) }
 
-  module _ (w : CountedPassed k d m table) where
-    skip : (j : ℕ) → has k.constraint.t1 j ≡ false → Counted k d table j → Counted k d table (j + 1)
-    skip j e h = record { row = below_more (CountedAt k d table) j h.row (λ b. absurd (true≢false (sym b ∙ e))) }
+  module _ {w : ℕ} (a : CountedPassed k d w table) where
+    pub counted-room : {t r : ℕ} → Lowest w t r → t < k.sizes.teams
+    counted-room s = taken-below a.part s k.sizes.teams (limits k.checkable).t1
 
-    pub counted-turn : {t : ℕ} {r : Members} {row : List ℕ} → Step m t r → row ≡ list_to (of_check running k d t) most_slots
+    pub counted-turn : {t r : ℕ} {row : List ℕ} → Lowest w t r → row ≡ list_to (of_check running k d t) most_slots
         → CountedPassed k d r (set table t row)
-    counted-turn {t} {r} {row} s e =
-        let y = s k.sizes.teams k.constraint.t1 w.ahead in
-        let old = to-next (Counted k d table) skip w.rows y in
-        record {
-          ahead = y.ahead;
-          long = length-set table t row ∙ w.long;
-          rows = rw y.past (record {
-            row = below_more (CountedAt k d (set table t row)) t
-                (λ i l b. get_or-set_other table t i row [] (λ q. omega arith) ∙ old.row i l b)
-                (λ b. get_or-set_same table t row [] (omega (arith, y.room, w.ahead.teams, w.long)) ∙ e);
-          });
-        }
+    counted-turn {t} {r} {row} s p = record {
+      part = part-left a.part s;
+      long = length-set table t row ∙ a.long;
+      rows = λ i e. go i e (ℕ_discrete i t);
+    }
+      where
+        go : (i : ℕ) → has r i ≡ false → Dec (i ≡ t) → CountedAt k d (set table t row) i
+        go i e (yes q) b = rw q (get_or-set_same table t row [] (omega (arith, counted-room s, k.checkable.teams, a.long)) ∙ p)
+        go i e (no n) b = get_or-set_other table t i row [] n ∙ a.rows i (sym (s.others i n) ∙ e) b
 
-    pub counted-end : m.rest ≡ 0 → Counted k d table k.sizes.teams
-    counted-end = to_end (Counted k d table) skip w.rows w.ahead
+    pub counted-end : w ≡ 0 → Counted k d table k.sizes.teams
+    counted-end z = record { row = λ t l. a.rows t (rw z (bare t)) }
 
 -- The constraint's own deviations.
 module _ (k : Check) where

@@ -16,8 +16,9 @@ pub fn fill(check: &Check, out: &mut [u32])
     ensures { out.new ≡ of_check deviations check.now }
 {
     match Kind::from(check.constraint.kind) {
-        Kind::Ca1 | Kind::Ca2 => counts::fill_counts(check, out),
-        Kind::Ca3 => counts::fill_runs(check, out),
+        Kind::Ca1 => counts::fill_ca1(check, out),
+        Kind::Ca2 => counts::fill_ca2(check, out),
+        Kind::Ca3 => counts::fill_ca3(check, out),
         Kind::Ca4 => between::fill_ca4(check, out),
         Kind::Ca5 => trips::fill_ca5(check, out),
         Kind::Ga1 => between::fill_ga1(check, out),

@@ -1,8 +1,7 @@
 -- Masks of a team's games count games: where the tables are tied, a union of masks has a game in a slot at most once.
 use mathlib.Core.Path.{◌≡◌, refl, sym, ap, ap₂, ◌∙◌}
-use mathlib.Core.List.{List}
 use mathlib.Core.Bool.{Bool, true, false}
-use Prim.Native.Nat.{ℕ, zero, suc, ◌+◌, ◌-◌, ◌*◌, ◌^◌, ◌<◌, ◌≤◌, max}
+use Prim.Native.Nat.{ℕ, zero, suc, ◌+◌, ◌-◌, ◌^◌, ◌<◌, ◌≤◌, max}
 use native.Mathlib.Omega.{arith}
 use lib.Bits.{bit_or}
 use lib.ListN.{get_or}
@@ -11,12 +10,12 @@ use Rattle.robinx.specs.Season.{most_teams, most_slots}
 use Rattle.robinx.specs.Sums.{sum_to, max_to, only}
 use Rattle.robinx.specs.Groups.{bit, has}
 use Rattle.robinx.specs.Timetable.{X, games_with, games_in, games_against}
-use Rattle.robinx.proofs.Sums.{only-le, max-bound, sum-zero, sum-add, sum-le}
-use Rattle.robinx.proofs.Ext.{sum-ext, max-ext}
+use Rattle.robinx.proofs.Sums.{only-le, only_sum, max-bound, sum-add, sum-le}
+use Rattle.robinx.proofs.Ext.{sum-ext}
 use Rattle.robinx.proofs.SetBits.{none-past}
 use Rattle.robinx.proofs.Stops.{max-stop}
 use Rattle.tables.specs.declared.Tables.{Tables}
-use Rattle.tables.specs.Tables.{Tied, x_of, cell}
+use Rattle.tables.specs.Tables.{Tied, x_of, hosting}
 use Rattle.opponents.specs.Games.{MaskOf, of_sides, in_union, Union}
 
 -- where at most one of two or of many is 1, the largest is the sum
@@ -32,10 +31,6 @@ bit-only : (b : Bool) (m k : ℕ) → bit (only b m) k ≡ only b (bit m k)
 bit-only true m k = refl
 bit-only false m k = bit_at-zero k
 
-only_sum : (b : Bool) (f : ℕ → ℕ) (n : ℕ) → sum_to (λ j. only b (f j)) n ≡ only b (sum_to f n)
-only_sum true f n = refl
-only_sum false f n = sum-zero n (λ j l. refl)
-
 sum-sides : (b c : Bool) (f g : ℕ → ℕ) (n : ℕ) → sum_to (λ j. only b (f j) + only c (g j)) n ≡ only b (sum_to f n) + only c (sum_to g n)
 sum-sides b c f g n = sum-add (λ j. only b (f j)) (λ j. only c (g j)) n ∙ ap₂ ◌+◌ (only_sum b f n) (only_sum c g n)
 
@@ -50,19 +45,16 @@ part-le : (T : ℕ) (f : ℕ → ℕ) (n : ℕ) → sum_to (λ j. only (has T j)
 part-le T f n = sum-le n (λ j l. only-le (has T j) (f j))
 
 -- a union of words that share no slot k
-union-sum : (l : List ℕ) (T base step n k : ℕ) (place : ℕ → ℕ) → ((j : ℕ) → base + j * step ≡ place j) → T < 2 ^ n → n ≤ most_teams
-    → sum_to (λ j. bit (get_or l (place j) 0) k) n ≤ 1
-    → in_union l T base step most_teams k ≡ sum_to (λ j. only (has T j) (bit (get_or l (place j) 0) k)) n
-union-sum l T base step n k place at h ln one =
-    max-ext most_teams (λ j lj. ap (λ (p : ℕ). only (has T j) (bit (get_or l p 0) k)) (at j))
-    ∙ max-stop n most_teams ln (λ j. only (has T j) (bit (get_or l (place j) 0) k)) (λ j a b. rw (none-past T n h j a))
-    ∙ max-is-sum _ n (omega (arith, part-le T (λ j. bit (get_or l (place j) 0) k) n))
+union-sum : (word : ℕ → ℕ) (T n k : ℕ) → T < 2 ^ n → n ≤ most_teams → sum_to (λ j. bit (word j) k) n ≤ 1
+    → in_union word T most_teams k ≡ sum_to (λ j. only (has T j) (bit (word j) k)) n
+union-sum word T n k h ln one =
+    max-stop n most_teams ln (λ j. only (has T j) (bit (word j) k)) (λ j a b. rw (none-past T n h j a))
+    ∙ max-is-sum _ n (omega (arith, part-le T (λ j. bit (word j) k) n))
 
 -- nobody's words have nothing in common
-nobody : (b : Bool) (l : List ℕ) (T base step n k : ℕ) → in_union l (only b T) base step n k ≡ only b (in_union l T base step n k)
-nobody true l T base step n k = refl
-nobody false l T base step n k =
-    omega (arith, max-bound {f = λ j. only (has 0 j) (bit (get_or l (base + j * step) 0) k)} n 0 (λ j lj. rw (bit_at-zero j) (omega arith)))
+nobody : (b : Bool) (word : ℕ → ℕ) (T n k : ℕ) → in_union word (only b T) n k ≡ only b (in_union word T n k)
+nobody true word T n k = refl
+nobody false word T n k = omega (arith, max-bound {f = λ j. only (has 0 j) (bit (word j) k)} n 0 (λ j lj. rw (bit_at-zero j) (omega arith)))
 
 module _ {n : ℕ} {ts : Tables} (tied : Tied n ts) (d t : ℕ) (lt : t < n) where
   once : (k : ℕ) → k < most_slots → sum_to (λ j. x_of ts.meets t j k) n + sum_to (λ j. x_of ts.meets j t k) n ≤ 1
@@ -80,19 +72,17 @@ module _ {n : ℕ} {ts : Tables} (tied : Tied n ts) (d t : ℕ) (lt : t < n) whe
 
   -- .. against a group, where a side that is not asked for has nobody's games
   pub union-mask : (T u v : ℕ) → n ≤ most_teams → T < 2 ^ n
-      → Union ts.meets (only (has d 0) T) (t * most_teams) 1 most_teams u → Union ts.meets (only (has d 1) T) t most_teams most_teams v
+      → Union (λ j. hosting ts.meets t j) (only (has d 0) T) most_teams u → Union (λ i. hosting ts.meets i t) (only (has d 1) T) most_teams v
       → MaskOf (games_against n (x_of ts.meets) d T t) (bit_or u v)
   unfolding games_against games_with
   union-mask T u v ln h p q k lk =
       let f : ℕ → ℕ = λ j. only (has T j) (x_of ts.meets t j k) in
       let g : ℕ → ℕ = λ j. only (has T j) (x_of ts.meets j t k) in
       let o = once k lk in
-      let eu : in_union ts.meets T (t * most_teams) 1 most_teams k ≡ sum_to f n =
-      union-sum ts.meets T (t * most_teams) 1 n k (λ j. cell t j) (λ j. omega arith) h ln (omega arith) in
-      let ev : in_union ts.meets T t most_teams most_teams k ≡ sum_to g n =
-      union-sum ts.meets T t most_teams n k (λ j. cell j t) (λ j. omega arith) h ln (omega arith) in
+      let eu = union-sum (λ j. hosting ts.meets t j) T n k h ln (omega arith) in
+      let ev = union-sum (λ i. hosting ts.meets i t) T n k h ln (omega arith) in
       bit_at_or u v k
-      ∙ ap₂ max (p k ∙ nobody (has d 0) _ _ _ _ _ k ∙ ap (only (has d 0)) eu) (q k ∙ nobody (has d 1) _ _ _ _ _ k ∙ ap (only (has d 1)) ev)
+      ∙ ap₂ max (p k ∙ nobody (has d 0) _ _ _ k ∙ ap (only (has d 0)) eu) (q k ∙ nobody (has d 1) _ _ _ k ∙ ap (only (has d 1)) ev)
       ∙ either (has d 0) (has d 1) (sum_to f n) (sum_to g n)
       (omega (arith, part-le T (λ j. x_of ts.meets t j k) n, part-le T (λ j. x_of ts.meets j t k) n))
       ∙ sym (sum-sides (has d 0) (has d 1) f g n)

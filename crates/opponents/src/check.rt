@@ -1,4 +1,6 @@
 // A check: a constraint that keeps the rules, the sizes of its season and the tables of a sheet. All deviations are worked out from these three.
+// The stretch that they are written to stays a parameter beside it, and its length a clause (`HasRoom`): of a struct that holds it each contract
+// would have to say that it is still the same one. That a team is one of the season's is the bound of an index, and a clause likewise.
 
 #![tactic(auto)]
 
@@ -18,7 +20,7 @@ pub struct Check<'a> {
     pub constraint: Constraint,
     pub sizes: Season,
     pub tables: &'a Tables,
-    ghost checkable: { Checkable sizes.teams sizes.slots constraint tables.now },
+    pub ghost checkable: { Checkable sizes.teams sizes.slots constraint tables.now },
 }
 
 impl Check<'_> {

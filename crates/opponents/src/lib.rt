@@ -1,42 +1,39 @@
-// What the fillers of all kinds share: a check, and the slots in which a team has a game of some sides against a group, as a mask; modes and counts.
+// What the fillers of all kinds share: a check, the sides of a mode, and the slots of a team's games of some sides against a group, as a mask.
 
 #![tactic(auto)]
 
 pub mod check;
 pub mod measure;
 
-ghost use Rattle.std.specs.Prelude.{◌≡◌, ◌+◌, ◌-◌, ◌*◌, ◌<◌, get_or};
-ghost use Rattle.robinx.specs.Season.{most_teams, most_places};
+ghost use Rattle.std.specs.Prelude.{◌≡◌, ℕ, ◌<◌, get_or};
+ghost use Rattle.robinx.specs.Season.{most_teams};
 ghost use Rattle.robinx.specs.Sums.{only};
 ghost use Rattle.robinx.specs.Groups.{has};
 ghost use Rattle.robinx.specs.Timetable.{games_against};
 ghost use Rattle.tables.specs.Tables.{x_of};
 ghost use Rattle.opponents.specs.Checkable.{TiedGroup};
 ghost use Rattle.opponents.specs.Sides.{code_of};
-ghost use Rattle.opponents.specs.Games.{MaskOf, of_sides, Union};
+ghost use Rattle.opponents.specs.Games.{MaskOf, of_sides, GathersUnion};
 
-use groups::Members;
+use groups::members;
+use masks::pattern::Pattern;
 use masks::union;
 use measure::Sides;
-use robinx::{Season, Slots};
+use robinx::Slots;
 use tables::Tables;
 
-// The slots of the team's home games, where home is one of the sides; else none.
-pub fn home(tables: &Tables, sides: Sides, t: usize) -> Slots
+// The team's home-away pattern, of the sides that are asked for: of the other side no slots.
+pub fn asked(tables: &Tables, sides: Sides, t: usize) -> Pattern
     requires { t < most_teams }
-    ensures { result ≡ only (has (code_of sides) 0) (get_or tables.now.home t 0) }
+    ensures { (result.home ≡ only (has (code_of sides) 0) (get_or tables.now.home t 0))
+        × (result.away ≡ only (has (code_of sides) 1) (get_or tables.now.away t 0)) }
 {
     let home = tables.home[t];
-    sides.asks_home().then_some(home).unwrap_or(masks::NONE)
-}
-
-// .. of its away games.
-pub fn away(tables: &Tables, sides: Sides, t: usize) -> Slots
-    requires { t < most_teams }
-    ensures { result ≡ only (has (code_of sides) 1) (get_or tables.now.away t 0) }
-{
     let away = tables.away[t];
-    sides.asks_away().then_some(away).unwrap_or(masks::NONE)
+    Pattern {
+        home: if sides.asks_home() { home } else { masks::NONE },
+        away: if sides.asks_away() { away } else { masks::NONE },
+    }
 }
 
 // The slots of the team's games of the sides, against any team.
@@ -44,15 +41,21 @@ pub fn played(tables: &Tables, sides: Sides, t: usize) -> Slots
     requires { t < most_teams }
     ensures { result ≡ of_sides (code_of sides) (get_or tables.now.home t 0) (get_or tables.now.away t 0) }
 {
-    union(home(tables, sides, t), away(tables, sides, t))
+    let asked = asked(tables, sides, t);
+    union(asked.home, asked.away)
 }
 
-// The union of the words base, base + step, .., of the teams of the group: from one member to the next.
-fn gather(meets: &[Slots; Season::PLACES], group: u32, base: usize, step: usize) -> Slots
-    requires { base + (most_teams - 1) * step < most_places }
-    ensures { Union meets.now group base step most_teams result }
+// The union of the words of the group's members.
+fn gather<F: Fn(usize) -> Slots>(group: u32, word: F) -> Slots
+    requires callable { (t : ℕ) → t < most_teams → F.pre word t }
+    ensures { GathersUnion group (F.post word) result }
 {
-    Members::of(group).fold(masks::NONE, |u, t| union(u, meets[base + t * step]))
+    members(group).fold(
+        masks::NONE,
+        |u, t|
+            requires { F.pre word t }
+        { union(u, word(t)) },
+    )
 }
 
 // The slots of the team's games of the sides, against the teams of the group. Of a side that is not asked for it gathers the games of no team.
@@ -64,10 +67,10 @@ pub fn against(tables: &Tables, sides: Sides, group: u32, t: usize, n: usize) ->
         return played(tables, sides, t);
     }
     let meets = &tables.meets;
-    let guests = sides.asks_home().then_some(group).unwrap_or(0);
-    let hosts = sides.asks_away().then_some(group).unwrap_or(0);
+    let guests = if sides.asks_home() { group } else { 0 };
+    let hosts = if sides.asks_away() { group } else { 0 };
     union(
-        gather(meets, guests, t * Season::TEAMS, 1),
-        gather(meets, hosts, t, Season::TEAMS),
+        gather(guests, |j| meets[t][j]),
+        gather(hosts, |i| meets[i][t]),
     )
 }

@@ -1,9 +1,8 @@
-// What the kinds share: the sides of a mode, and how far a count is outside its range.
+// The sides of a mode.
 
 ghost use Rattle.std.specs.Prelude.{◌≡◌, ◌≤◌};
 ghost use Rattle.robinx.specs.Groups.{has};
 ghost use Rattle.robinx.specs.Timetable.{side};
-ghost use Rattle.robinx.specs.Deviations.{outside};
 ghost use Rattle.opponents.specs.Sides.{code_of};
 
 // The sides on which games count.
@@ -15,7 +14,7 @@ pub enum Sides {
 }
 
 impl Sides {
-    // The sides of a mode.
+    // The sides of a mode. It is no `From`, since 0 is no mode.
     pub fn of_mode(mode: u8) -> Self
         requires { 1 ≤ mode }
         ensures { code_of result ≡ side mode }
@@ -40,13 +39,4 @@ impl Sides {
     {
         self != Sides::Home
     }
-}
-
-// How far a count is outside kmin .. kmax.
-pub fn outside(kmin: u8, kmax: u8, v: u32) -> u32
-    ensures { result ≡ outside kmin kmax v }
-{
-    u32::from(kmin)
-        .saturating_sub(v)
-        .max(v.saturating_sub(u32::from(kmax)))
 }

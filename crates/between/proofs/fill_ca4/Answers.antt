@@ -18,9 +18,8 @@ use Rattle.opponents.specs.Figures.{HasRoom}
 use Rattle.opponents.specs.Sides.{code_of}
 use Rattle.opponents.specs.declared.check.Check.{Check}
 use Rattle.opponents.proofs.Checkable.{limits, places_of}
-use Rattle.between.proofs.Between.{one-figure, columns-between}
+use Rattle.between.proofs.Between.{columns-between}
 use Rattle.between.proofs.fill_ca4.Goals as goal
-use Rattle.between.proofs.fill_ca4.Goals.{After-outside}
 
 -- one place, or one for each slot of S
 places : (k : Check) (out : List ℕ) {b : Bool} → HasRoom k out → kind_of k.constraint.kind ≡ Ca4 → b ≡ first_modes k.constraint.mode
@@ -28,28 +27,23 @@ places : (k : Check) (out : List ℕ) {b : Bool} → HasRoom k out → kind_of k
 unfolding form_of
 places k out room e f = rw f (places_of k.checkable out room e)
 
-pub of_mode-requires : goal.of_mode-requires
-of_mode-requires c = (limits c.args.check.now.checkable).mode-least
-
-one_place : (c : After-outside) → length c.args.out.now ≡ 1
-one_place c = places c.args.check.now c.args.out.now c.requires.0 c.requires.1 (sym c.if-first_modes.true ∙ c.first_modes.ensures)
-
-pub bounds-out-0 : goal.bounds-out-0
-bounds-out-0 c = omega (arith, one_place (goal.at.bounds-out-0 c).After-outside)
+pub fill_one-requires : goal.fill_one-requires
+fill_one-requires c =
+    places c.args.check.now c.args.out.now c.requires.0 c.requires.1 (sym c.if-first_modes.true ∙ c.first_modes.ensures)
 
 pub returns-then-first_modes : goal.returns-then-first_modes
 unfolding dev_ca4
-returns-then-first_modes c =
-    let k = c.args.check.now in
-    rw (← c.first_modes.ensures, c.if-first_modes.true, ← c.of_mode.ensures)
-    (one-figure k.checkable c.args.out.now (x_of k.tables.now.meets) (code_of c.of_mode.result)
-    (one_place (goal.at.returns-then-first_modes c).After-outside) c.games_in.ensures c.outside.ensures)
+returns-then-first_modes c = rw (← c.first_modes.ensures, c.if-first_modes.true, ← c.of_mode.ensures) c.fill_one.ensures
 
 pub fill_columns-requires : goal.fill_columns-requires
 fill_columns-requires c =
     let r = c.args.check.now.checkable in
     let few = r.teams in
-    (search rules, r.slots, places c.args.check.now c.args.out.now c.requires.0 c.requires.1 (sym c.if-first_modes.false ∙ c.first_modes.ensures))
+    record {
+      words = search rules;
+      slots = (r.slots, (limits r).s);
+      room = places c.args.check.now c.args.out.now c.requires.0 c.requires.1 (sym c.if-first_modes.false ∙ c.first_modes.ensures);
+    }
 
 pub returns : goal.returns
 unfolding dev_ca4
@@ -60,5 +54,5 @@ returns c =
     let long : length c.lay_hosted.new.words ≡ k.sizes.teams = search rules in
     let masks = columns-between k.sizes.teams (x_of k.tables.now.meets) (code_of c.of_mode.result) con.t1 con.t2 long c.lay_hosted.ensures in
     rw (← c.first_modes.ensures, c.if-first_modes.false, ← c.of_mode.ensures)
-    (c.fill_columns.ensures
+    (rw c.range.ensures at c.fill_columns.ensures
     ∙ each-ext k.sizes.slots (slots_of con) (λ k l e. ap (outside con.kmin con.kmax) (masks k (omega (arith, c.args.check.now.checkable.slots)))))

@@ -1,21 +1,12 @@
 -- The figures of the pairs are their deviations. Assumes nothing.
-use mathlib.Core.Path.{refl}
 use Prim.Native.Nat.{◌<◌}
 use borrow.Author.Rules.{rules}
 use native.Mathlib.Omega.{arith}
-use Rattle.robinx.specs.Kinds.{form_of}
 use Rattle.robinx.specs.Deviations.{dev_fa2}
 use Rattle.opponents.specs.Sides.{code_of}
-use Rattle.opponents.proofs.Checkable.{limits, pair-places}
+use Rattle.opponents.proofs.Checkable.{limits}
 use Rattle.fairness.proofs.RunningCounts.{held-apart, apart-in-s}
 use Rattle.fairness.proofs.fill_fa2.Goals as goal
-
-pub of_mode-requires : goal.of_mode-requires
-of_mode-requires c = (limits c.args.check.now.checkable).mode-least
-
-pub fill_pairs-requires-clause-room : goal.fill_pairs-requires-clause-room
-unfolding form_of
-fill_pairs-requires-clause-room c = pair-places c.args.check.now.checkable _ c.requires.0 c.requires.1 refl
 
 pub returns : goal.returns
 unfolding dev_fa2
@@ -24,6 +15,6 @@ returns c =
     let rows = c.lay_teams.ensures.row in
     rw (← c.of_mode.ensures) (c.fill_pairs.ensures _ _ k.checkable.teams (limits k.checkable).t1 (λ i j l m hi hj v p.
     let li : i < k.sizes.teams = omega arith in
-    let held = held-apart c.spread.new.row k.constraint.kmax _ _ (rows i li hi) (rows j m hj) in
-    let w = apart-in-s k c.spread.ensures (code_of c.of_mode.result) (code_of c.of_mode.result) i j li m in
+    let held = held-apart c.spread-marks.result k.constraint.kmax _ _ (rows i li hi) (rows j m hj) in
+    let w = apart-in-s k c.spread-marks.ensures (code_of c.of_mode.result) (code_of c.of_mode.result) i j li m in
     search rules))

@@ -1,12 +1,8 @@
 -- The mask's counts are those of its games. Assumes nothing.
 use mathlib.Core.Path.{◌∙◌}
 use Rattle.opponents.specs.Sides.{code_of}
-use Rattle.opponents.proofs.Checkable.{limits}
 use Rattle.fairness.proofs.RunningCounts.{running-of}
 use Rattle.fairness.proofs.lay_games.Goals as goal
-
-pub against-requires : goal.against-requires
-against-requires c = (c.requires, (limits c.args.check.now.checkable).t1)
 
 pub returns : goal.returns
 returns c =

@@ -1,17 +1,19 @@
 -- Before each turn the rows of the members passed are laid. Assumes nothing.
-use borrow.Author.Rules.{rules}
-use Rattle.fairness.proofs.RunningCounts.{counted-start, counted-turn, counted-end}
+use Rattle.std.proofs.Common.{arith, rules}
+use Rattle.fairness.proofs.RunningCounts.{counted-start, counted-room, counted-turn, counted-end}
 use Rattle.fairness.proofs.lay_teams.Goals as goal
 
 pub loop-t-init : goal.loop-t-init
-loop-t-init c =
-    rw c.into_iter-t-iterator.ensures.into_iter_gives (counted-start c.of-t-items.ensures (search rules))
+loop-t-init c = rw (c.into_iter-t-iterator.ensures.into_iter_gives, c.members-t-items.ensures) (counted-start (search rules))
 
 pub lay_games-requires : goal.lay_games-requires
-lay_games-requires c = (c.in-Some.ensures.steps.2 _ _ c.loop-t.invariant.ahead).room
+lay_games-requires c = counted-room c.loop-t.invariant c.in-Some.ensures.steps
+
+pub bounds-rows-t : goal.bounds-rows-t
+bounds-rows-t c = omega (arith, counted-room c.loop-t.invariant c.in-Some.ensures.steps, c.args.check.now.checkable.teams)
 
 pub loop-t-preserved : goal.loop-t-preserved
-loop-t-preserved c = counted-turn c.loop-t.invariant c.in-Some.ensures.steps.2 c.lay_games.ensures
+loop-t-preserved c = counted-turn c.loop-t.invariant c.in-Some.ensures.steps c.lay_games.ensures
 
 pub returns : goal.returns
 returns c = counted-end c.loop-t.invariant c.in-None.ensures.steps.0
