@@ -1,5 +1,5 @@
 -- What an accepted call answers and leaves in the books, for any timetable x and any number u of unplaced games.
-use Rattle.std.specs.Prelude.{◌≡◌, List, [], ◌∷◌, ◌++◌, Bool, ℕ, ◌+◌, get_or}
+use Rattle.std.specs.Prelude.{◌≡◌, List, [], ◌∷◌, ◌++◌, Bool, ℕ, ◌+◌, get_or, take}
 use Rattle.robinx.specs.Sums.{cat_to, list_to}
 use Rattle.robinx.specs.Season.{Instance}
 use Rattle.robinx.specs.Timetable.{X}
@@ -8,20 +8,27 @@ use Rattle.robinx.specs.Calls.{reworked_stretch, reworked_penalty, change, moved
 use Rattle.totals.specs.RunningTotals.{TotalsOf}
 use Rattle.replies.specs.Verdict.{verdict_number, verdict_of}
 use Rattle.replies.specs.declared.Accepted.{Accepted}
+use Rattle.walk.specs.Reworked.{instance_of}
+use Rattle.walk.specs.declared.books.Books.{Books}
+
+-- the first penalties of a tally, and then two totals
+abbrev pub with_totals : List ℕ → ℕ → ℕ → ℕ → List ℕ
+with_totals tally n hard soft = take n tally ++ hard ∷ soft ∷ []
 
 -- an opening: all figures are those of x, and the changes are their totals
-pub record Opened (m : Instance) (x : X) (u : ℕ) (ledger' tally' : List ℕ) (a : Accepted) : Type 0 where
+pub record Opened (m : Instance) (x : X) (u : ℕ) (new : Books) (a : Accepted) : Type 0 where
   pub totals : TotalsOf (λ want. total want m x) a.change
-  pub ledger-is : ledger' ≡ cat_to (deviations_at m x) m.C
-  pub tally-is : tally' ≡ list_to (penalty_at m x) m.C ++ a.change.hard ∷ a.change.soft ∷ []
+  pub ledger-is : new.ledger.now ≡ cat_to (deviations_at m x) m.C
+  pub tally-is : new.tally.now ≡ list_to (penalty_at m x) m.C ++ a.change.hard ∷ a.change.soft ∷ []
   pub verdict : verdict_number a.verdict ≡ verdict_of u a.change.hard
 
 -- a set or an exchange: the constraints that t names are worked out, and the totals have moved by their changes
-pub record Answered (m : Instance) (t : ℕ → Bool) (x : X) (u : ℕ) (ledger tally ledger' tally' : List ℕ) (a : Accepted) : Type 0 where
-  pub hard : a.change.hard ≡ change is_hard m t x tally
-  pub soft : a.change.soft ≡ change is_soft m t x tally
-  pub ledger-is : ledger' ≡ cat_to (reworked_stretch m t x ledger) m.C
-  pub tally-is : tally'
-      ≡ list_to (reworked_penalty m t x tally) m.C
-      ++ moved_total (get_or tally m.C 0) a.change.hard ∷ moved_total (get_or tally (m.C + 1) 0) a.change.soft ∷ []
-  pub verdict : verdict_number a.verdict ≡ verdict_of u (moved_total (get_or tally m.C 0) a.change.hard)
+pub record Answered (old : Books) (t : ℕ → Bool) (x : X) (u : ℕ) (new : Books) (a : Accepted) : Type 0 where
+  pub hard : a.change.hard ≡ change is_hard (instance_of old) t x old.tally.now
+  pub soft : a.change.soft ≡ change is_soft (instance_of old) t x old.tally.now
+  pub ledger-is : new.ledger.now ≡ cat_to (reworked_stretch (instance_of old) t x old.ledger.now) (instance_of old).C
+  pub tally-is : new.tally.now
+      ≡ list_to (reworked_penalty (instance_of old) t x old.tally.now) (instance_of old).C
+      ++ moved_total (get_or old.tally.now (instance_of old).C 0) a.change.hard
+      ∷ moved_total (get_or old.tally.now ((instance_of old).C + 1) 0) a.change.soft ∷ []
+  pub verdict : verdict_number a.verdict ≡ verdict_of u (moved_total (get_or old.tally.now (instance_of old).C 0) a.change.hard)

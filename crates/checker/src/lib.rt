@@ -1,4 +1,5 @@
-// The three calls of the console. Each meets its definition for every input; a refused call writes nothing.
+// The three calls of the console. Each meets its definition for every input; a refused call writes nothing. Ledger and tally come one by one, as C
+// lends them, and become the books of the season once sentence 7 has tested their lengths.
 
 #![tactic(auto)]
 
@@ -9,6 +10,7 @@ ghost use Rattle.replies.specs.Reply.{reply_of};
 use replies::Accepted;
 use robinx::Refusal;
 use tables::Tables;
+use walk::books::Books;
 
 // Checks a proposed sheet and fills ledger and tally.
 pub fn season_open(
@@ -21,11 +23,17 @@ pub fn season_open(
         ≡ open_call season.now (buffers sheet.now ledger.old tally.old) }
 {
     let mut tables = Tables::new();
-    let admitted = admission::admit(season, sheet, ledger, tally, &mut tables)?;
-    Ok(books::open(admitted.season, admitted.unplaced, &tables, ledger, tally))
+    let found = admission::admit(season, sheet, ledger, tally, &mut tables)?;
+    let mut books = Books {
+        season: found.season,
+        ledger,
+        tally,
+    };
+    Ok(books::open(&mut books, found.unplaced, &tables))
 }
 
-// Gives a game a slot; slot 0 takes it out.
+// Gives a game a slot; slot 0 takes it out. The beginning of the three calls as one function was tried: the borrow checker does not cover a `Result`
+// of books; with an enum of its own, that a refusal leaves ledger and tally stays open (`follows` is proved of one field or a call's result alone).
 pub fn season_set(
     season: &[u8],
     sheet: &mut [u8],
@@ -38,8 +46,13 @@ pub fn season_set(
         ≡ set_call season.now (buffers sheet.old ledger.old tally.old) game slot }
 {
     let mut tables = Tables::new();
-    let admitted = admission::admit(season, sheet, ledger, tally, &mut tables)?;
-    sets::set(admitted, sheet, &mut tables, ledger, tally, game, slot)
+    let found = admission::admit(season, sheet, ledger, tally, &mut tables)?;
+    let mut books = Books {
+        season: found.season,
+        ledger,
+        tally,
+    };
+    sets::set(&mut books, found.unplaced, sheet, &mut tables, game, slot)
 }
 
 // Exchanges the slots of two placed games.
@@ -55,6 +68,11 @@ pub fn season_exchange(
         ≡ exchange_call season.now (buffers sheet.old ledger.old tally.old) game other }
 {
     let mut tables = Tables::new();
-    let admitted = admission::admit(season, sheet, ledger, tally, &mut tables)?;
-    exchanges::exchange(admitted, sheet, &mut tables, ledger, tally, game, other)
+    let found = admission::admit(season, sheet, ledger, tally, &mut tables)?;
+    let mut books = Books {
+        season: found.season,
+        ledger,
+        tally,
+    };
+    exchanges::exchange(&mut books, found.unplaced, sheet, &mut tables, game, other)
 }

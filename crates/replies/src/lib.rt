@@ -50,7 +50,8 @@ pub struct Accepted {
     pub change: Totals,
 }
 
-// What the C interface replies: the number of a refusal with no change, or that of the verdict with the changes as two's complement.
+// What the C interface replies: the number of a refusal with no change, or that of the verdict with the changes as two's complement. It is no
+// `From`, since neither `Reply` nor `Result` is a type of this crate.
 pub fn reply(answer: Result<Accepted, Refusal>) -> Reply
     ensures { result ≡ reply_of answer }
 {
@@ -58,8 +59,8 @@ pub fn reply(answer: Result<Accepted, Refusal>) -> Reply
         Ok(Accepted { verdict, change }) => Reply {
             declined: false,
             number: u8::from(verdict),
-            infeasibility: totals::signed(change.hard),
-            objective: totals::signed(change.soft),
+            infeasibility: change.hard.cast_signed(),
+            objective: change.soft.cast_signed(),
         },
         Err(refusal) => Reply {
             declined: true,

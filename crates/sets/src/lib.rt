@@ -1,64 +1,65 @@
-// Set for a call that has passed sentences 1 to 8. Sheet, ledger and tally come one by one, as the console lends them.
+// Set for a call that has passed sentences 1 to 8 (`Ready`, of books, sheet and tables). The three come one by one, since each is lent to another
+// function here.
 
 #![tactic(auto)]
 
 ghost use Rattle.std.specs.Prelude.{◌≡◌, ◌<◌, ◌≤◌};
-ghost use Rattle.robinx.specs.Season.{decode};
-ghost use Rattle.robinx.specs.Calls.{set_slot, buffers, outcome};
+ghost use Rattle.robinx.specs.Calls.{set_slot, outcome};
 ghost use Rattle.replies.specs.Reply.{reply_of};
+ghost use Rattle.walk.specs.Reworked.{SameBooks, instance_of, lent};
 ghost use Rattle.admission.specs.Admission.{Ready, after_entry};
 
-use admission::Admitted;
-use calls::set_numbers;
+use admission::games_of;
+use calls::set_arguments;
 use replies::Accepted;
 use robinx::Refusal;
+use robinx::game::slot_of;
 use tables::Tables;
-use timetable::no_slot;
 use touch::moves::Move;
-use walk::moves;
+use walk::Touch;
+use walk::books::Books;
 
 // Game g goes to the slot of byte b, if its teams are free there.
 fn set_to(
-    admitted: Admitted,
+    books: &mut Books,
+    unplaced: usize,
     sheet: &mut [u8],
     tables: &mut Tables,
-    ledger: &mut [u32],
-    tally: &mut [u64],
     g: usize,
     b: u8,
 ) -> Result<Accepted, Refusal>
-    requires { Ready admitted.season.bytes.now (buffers sheet.old ledger.old tally.old) admitted.unplaced tables.old
-        × (g < (decode admitted.season.bytes.now).G) × (b ≤ (decode admitted.season.bytes.now).P) }
-    ensures { outcome (reply_of result) (buffers sheet.new ledger.new tally.new)
-        ≡ after_entry (decode admitted.entry.season.bytes.now) (buffers sheet.old ledger.old tally.old) (set_slot g b) }
+    requires { Ready books.old.season.bytes.now (lent sheet.old books.old) unplaced tables.old
+        × (g < (instance_of books.old).G) × (b ≤ (instance_of books.old).P) }
+    ensures same { SameBooks books.old books.new }
+    ensures outcome { outcome (reply_of result) (lent sheet.new books.new)
+        ≡ after_entry (instance_of books.old) (lent sheet.old books.old) (set_slot g b) }
 {
-    let season = admitted.season;
-    let homes = season.homes();
-    let aways = season.aways();
-    let from = sheet[g];
-    timetable::reslot(homes, aways, sheet, tables, g, b)?;
-    let touch = moves(Move::of(homes[g], aways[g], from, b), None);
-    let left = admitted.unplaced - no_slot(from) + no_slot(b);
+    let games = games_of(books.season);
+    let from = slot_of(sheet[g]);
+    let to = slot_of(b);
+    timetable::reslot(games, sheet, tables, g, to)?;
+    let touch = Touch::of_moves(Move::of(games.game(g), from, to), None);
+    let left = unplaced - usize::from(from.is_none()) + usize::from(to.is_none());
     sheet[g] = b;
-    Ok(books::rework(season, touch, left, tables, ledger, tally))
+    Ok(books::rework(books, touch, left, tables))
 }
 
 // Set, once sentences 1 to 8 are passed.
 pub fn set(
-    admitted: Admitted,
+    books: &mut Books,
+    unplaced: usize,
     sheet: &mut [u8],
     tables: &mut Tables,
-    ledger: &mut [u32],
-    tally: &mut [u64],
     game: u64,
     slot: u64,
 ) -> Result<Accepted, Refusal>
-    requires { Ready admitted.season.bytes.now (buffers sheet.old ledger.old tally.old) admitted.unplaced tables.old }
-    ensures { outcome (reply_of result) (buffers sheet.new ledger.new tally.new)
-        ≡ after_entry (decode admitted.entry.season.bytes.now) (buffers sheet.old ledger.old tally.old) (set_slot game slot) }
+    requires { Ready books.old.season.bytes.now (lent sheet.old books.old) unplaced tables.old }
+    ensures same { SameBooks books.old books.new }
+    ensures outcome { outcome (reply_of result) (lent sheet.new books.new)
+        ≡ after_entry (instance_of books.old) (lent sheet.old books.old) (set_slot game slot) }
 {
-    let (g, slot) = set_numbers(admitted.season.sizes, game, slot)?;
+    let (g, slot) = set_arguments(books.season.sizes, game, slot)?;
     // a season has at most 64 slots
     let b = u8::try_from(slot).unwrap();
-    set_to(admitted, sheet, tables, ledger, tally, g, b)
+    set_to(books, unplaced, sheet, tables, g, b)
 }

@@ -19,7 +19,7 @@ one_more : (a s p v s' : ℕ) → a ≡ s % 2 ^ 64 → v ≡ (a + p) % 2 ^ 64 �
 one_more a s p v s' h e g = e ∙ rw (h, g) (mod-add-mod s (2 ^ 64) p)
 
 pub holds_more : {s s' : (Constraint → Bool) → ℕ} {t r : Totals} (c : Constraint) (p : ℕ)
-    → TotalsOf s t → Adds t c.hard p r → Grown s c p s' → TotalsOf s' r
+    → TotalsOf s t → Adds t (is_hard c) p r → Grown s c p s' → TotalsOf s' r
 holds_more {s} {s'} {t} {r} c p h a g = record {
   hard = one_more t.hard (s is_hard) (only (is_hard c) p) r.hard (s' is_hard) h.hard a.0 (g is_hard);
   soft = one_more t.soft (s is_soft) (only (is_soft c) p) r.soft (s' is_soft) h.soft a.1 (g is_soft);

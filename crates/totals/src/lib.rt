@@ -1,12 +1,9 @@
-// The two running totals, modulo 2^64, their change, and a change read as a signed number.
+// The two running totals, modulo 2^64, and their change.
 
 #![tactic(auto)]
 
-ghost use Rattle.std.specs.Prelude.{◌≡◌, ◌+◌, ◌-◌, ◌%◌, ◌^◌, not, ◌==◌};
-ghost use Rattle.std.specs.Int.{w64};
-ghost use Rattle.std.proofs.Common.{to_z};
-ghost use Rattle.robinx.specs.Sums.{only};
-ghost use Rattle.totals.specs.RunningTotals.{moved_by};
+ghost use Rattle.std.specs.Prelude.{◌≡◌, ◌+◌, ◌-◌, ◌%◌, ◌^◌};
+ghost use Rattle.totals.specs.RunningTotals.{Adds, less, moved_by};
 
 // The two running totals: infeasibility and objective.
 #[derive(Clone, Copy, Debug, Default, PartialEq, Eq)]
@@ -15,8 +12,8 @@ pub struct Totals {
     pub soft: u64,
 }
 
-// A penalty is added modulo 2^64, which is exact for correct books: both totals stay below 2^60. The totals go in and out by value: the
-// customer named this form.
+// A penalty is added modulo 2^64, which is exact for correct books: both totals stay below 2^60. The customer named the two functions, with the
+// totals in and out by value.
 impl Totals {
     pub fn add_hard(self, penalty: u64) -> Self
         ensures { (result.hard ≡ (self.hard + penalty) % 2 ^ 64) × (result.soft ≡ self.soft) }
@@ -35,28 +32,26 @@ impl Totals {
             ..self
         }
     }
-}
 
-// A penalty is added to the hard total or to the soft one: `hard` is the constraint's byte, which is asked for here alone.
-pub fn added(t: Totals, hard: u8, p: u64) -> Totals
-    ensures { (result.hard ≡ (t.hard + only (hard == 1) p) % 2 ^ 64)
-        × (result.soft ≡ (t.soft + only (not (hard == 1)) p) % 2 ^ 64) }
-{
-    if hard == 1 {
-        t.add_hard(p)
-    } else {
-        t.add_soft(p)
+    // What was gained less what was lost.
+    pub fn less(self, lost: Self) -> Self
+        ensures { result ≡ less self lost }
+    {
+        Self {
+            hard: self.hard.wrapping_sub(lost.hard),
+            soft: self.soft.wrapping_sub(lost.soft),
+        }
     }
 }
 
-// What was gained less what was lost. It has a name, since its clause is what the laws of totals are about.
-pub fn change_of(gained: u64, lost: u64) -> u64
-    ensures { result ≡ (gained + (2 ^ 64 - lost)) % 2 ^ 64 }
+// A penalty is added to the hard total or to the soft one.
+pub fn added(t: Totals, hard: bool, p: u64) -> Totals
+    ensures { Adds t hard p result }
 {
-    gained.wrapping_sub(lost)
+    if hard { t.add_hard(p) } else { t.add_soft(p) }
 }
 
-// A total moved by a change; named for the same reason.
+// A total moved by a change.
 pub fn moved_total(old: u64, change: u64) -> u64
     ensures { result ≡ (old + change) % 2 ^ 64 }
 {
@@ -77,11 +72,4 @@ pub fn moved(mut totals: Totals, change: Totals) -> Totals
 {
     apply(&mut totals, change);
     totals
-}
-
-// A change as two's complement.
-pub fn signed(d: u64) -> i64
-    ensures { result ≡ to_z w64 d }
-{
-    d.cast_signed()
 }

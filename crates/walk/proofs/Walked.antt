@@ -1,6 +1,6 @@
 -- The books after the first k constraints of a walk that reworks the touched ones and keeps the others; opening is the walk in which
 -- all are touched. Assumes a ledger and a tally of the season's lengths.
-use mathlib.Core.Path.{◌≡◌}
+use mathlib.Core.Path.{◌≡◌, ◌∙◌}
 use mathlib.Core.List.{List, ◌++◌}
 use mathlib.Core.Bool.{Bool, true, false}
 use Prim.Native.Nat.{ℕ, ◌+◌, ◌-◌, ◌<◌, ◌≤◌}
@@ -9,13 +9,14 @@ use lib.ListN.{length, get_or, set, take, drop}
 use Rattle.robinx.specs.Sums.{sum_to}
 use Rattle.robinx.specs.Season.{Instance}
 use Rattle.robinx.specs.Timetable.{X}
-use Rattle.robinx.specs.Books.{deviations_at, penalty_at, entries_at, start_at, all_entries}
+use Rattle.robinx.specs.Books.{deviations_at, penalty_at, entries_at, start_at, all_entries, is_hard}
 use Rattle.robinx.specs.Calls.{stretch_at, reworked_stretch, reworked_penalty, gained, lost}
 use Rattle.totals.specs.declared.Totals.{Totals}
 use Rattle.robinx.proofs.Lengths.{length-deviations}
 use Rattle.totals.specs.RunningTotals.{TotalsOf, Adds}
-use Rattle.walk.specs.Walk.{Reworked}
+use Rattle.walk.specs.Reworked.{SameBooks, instance_of, Reworked}
 use Rattle.walk.specs.declared.Moved.{Moved}
+use Rattle.walk.specs.declared.books.Books.{Books}
 use Rattle.totals.proofs.RunningTotals.{gathered, holds_more, holds_same, gathered-more, gathered-same}
 use Rattle.walk.proofs.Laid.{Laid, laid_none, laid-fits, laid_more, laid_kept, laid_done, Listed, listed-old, listed_more, listed_kept}
 
@@ -50,7 +51,7 @@ module _ {m : Instance} {t : ℕ → Bool} {x : X} {ledger₀ tally₀ : List �
     pub walked-reworked : {ledger' ys : List ℕ} {v : ℕ} {got' gone' : Totals} → t k ≡ true
         → ys ≡ deviations_at m x k → v ≡ penalty_at m x k
         → ledger' ≡ take at ledger ++ (ys ++ drop (e - at) (drop at ledger))
-        → Adds got (m.constraint k).hard v got' → Adds gone (m.constraint k).hard (get_or tally k 0) gone'
+        → Adds got (is_hard (m.constraint k)) v got' → Adds gone (is_hard (m.constraint k)) (get_or tally k 0) gone'
         → Walked m t x ledger₀ tally₀ (k + 1) e ledger' (set tally k v) got' gone'
     walked-reworked {ledger'} {ys} {v} {got'} {gone'} h hy hv hl hg hs = record {
       laid =
@@ -77,12 +78,22 @@ module _ {m : Instance} {t : ℕ → Bool} {x : X} {ledger₀ tally₀ : List �
       gone-holds = holds_same w.gone-holds (gathered-same m t (λ c. get_or tally₀ c 0) k h);
     }
 
-  -- all turns done
-  pub walked-done : {r : Moved} → k ≡ m.C → r.gained ≡ got → r.lost ≡ gone → Reworked m t x ledger₀ tally₀ ledger tally r
-  unfolding start_at gained lost stretch_at
-  walked-done {r} e hg hl = record {
-    ledger-is = rw (← e) (laid_done (entries_at m) (reworked_stretch m t x ledger₀) ledger₀ k at ledger w.laid (rw e ledger-long));
-    tally-is = rw (← e) w.listed.list;
-    got = rw (← e, hg) w.got-holds;
-    gone = rw (← e, hl) w.gone-holds;
-  }
+-- all turns done
+pub walked-done : {old new : Books} {t : ℕ → Bool} {x : X} {k at : ℕ} {r : Moved}
+    → Walked (instance_of old) t x old.ledger.now old.tally.now k at new.ledger.now new.tally.now r.gained r.lost
+    → k ≡ (instance_of old).C → Reworked old t x new r
+unfolding start_at gained lost stretch_at
+walked-done {old} {new} {t} {x} {k} {at} w e =
+    let m = instance_of old in
+    record {
+      ledger-is =
+          rw (← e)
+          (laid_done (entries_at m) (reworked_stretch m t x old.ledger.now) old.ledger.now k at new.ledger.now w.laid (rw e old.ledger_length));
+      tally-is = rw (← e) w.listed.list;
+      got = rw (← e) w.got-holds;
+      gone = rw (← e) w.gone-holds;
+    }
+
+-- two steps keep the books the same
+pub same_twice : {a b c : Books} → SameBooks a b → SameBooks b c → SameBooks a c
+same_twice h k = record { season = k.season ∙ h.season; ledger = k.ledger ∙ h.ledger; tally = k.tally ∙ h.tally }

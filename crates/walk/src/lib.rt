@@ -1,8 +1,8 @@
-// The walk over a season's constraints. It lends out the stretch of each touched one, and writes nothing for the others.
+// The walk over a season's constraints: which of them a call touches, and what those pay.
 
 #![tactic(auto)]
 
-ghost use Rattle.std.specs.Prelude.{◌≡◌, ◌||◌, ◌+◌, ◌<◌, length, get_or, set};
+ghost use Rattle.std.specs.Prelude.{◌≡◌, ◌||◌, ◌+◌, ◌<◌, length, get_or, set, take, drop, ◌++◌, ◌-◌, ◌≤◌};
 ghost use Rattle.robinx.specs.Season.{decode};
 ghost use Rattle.robinx.specs.Deviations.{deviations};
 ghost use Rattle.tables.specs.Tables.{x_of};
@@ -10,8 +10,12 @@ ghost use Rattle.opponents.specs.Figures.{of_check, HasRoom};
 ghost use Rattle.robinx.specs.declared.Constraint.{Constraint};
 ghost use Rattle.touch.specs.Touched.{touched_by_move, touched_too};
 ghost use Rattle.totals.specs.RunningTotals.{Adds};
-ghost use Rattle.walk.specs.Walk.{Given, check_penalty, SoundTouch, MovesOf, is_touched, Reworked};
+ghost use Rattle.walk.specs.Walk.{check_penalty, MovesOf, is_touched};
 
+pub mod books;
+pub mod moves;
+
+use crate::moves::Moves;
 use figures::fill;
 use kinds::form_of;
 use opponents::check::Check;
@@ -22,15 +26,11 @@ use totals::{Totals, added};
 use touch::moves::Move;
 use touch::{either_touches, passed_over};
 
-// What a call changes: everything, or what one or two moves touch, whose teams are `teams`.
+// What a call changes: everything, or what is touched by its moves. An Option would have the shape, but its None would read as nothing changed.
 #[derive(Clone, Copy)]
 pub enum Touch {
     Everything,
-    Moves {
-        teams: u32,
-        first: Move,
-        second: Option<Move>,
-    },
+    By(Moves),
 }
 
 // What the reworked constraints pay now, and what they paid.
@@ -40,33 +40,30 @@ pub struct Moved {
     pub lost: Totals,
 }
 
-// What one or two moves touch.
-pub fn moves(first: Move, second: Option<Move>) -> Touch
-    ensures moves { MovesOf result first second }
-    ensures sound { SoundTouch result }
-    ensures touched { (c : Constraint) → is_touched result c ≡ touched_by_move first c || touched_too second c }
-{
-    Touch::Moves {
-        teams: first.teams_with(second),
-        first,
-        second,
-    }
-}
-
-// Most constraints have no team of the moves in T1, and are passed over.
-fn is_touched(c: Constraint, touch: Touch) -> bool
-    requires { SoundTouch touch }
-    ensures { result ≡ is_touched touch c }
-{
-    match touch {
-        Touch::Everything => true,
-        Touch::Moves {
-            teams,
+impl Touch {
+    // What one or two moves touch.
+    pub fn of_moves(first: Move, second: Option<Move>) -> Self
+        ensures moves { MovesOf result first second }
+        ensures touched { (c : Constraint) → is_touched result c ≡ touched_by_move first c || touched_too second c }
+    {
+        Self::By(Moves {
+            teams: first.teams_with(second),
             first,
             second,
-        } => {
-            let form = form_of(Kind::from(c.kind));
-            !passed_over(form, c.t1, teams) && either_touches(form, c, first, second)
+        })
+    }
+
+    // Most constraints have no team of the moves in T1, and are passed over.
+    fn touches(self, c: Constraint) -> bool
+        ensures { result ≡ is_touched self c }
+    {
+        match self {
+            Self::Everything => true,
+            Self::By(moves) => {
+                let form = form_of(Kind::from(c.kind));
+                !passed_over(form, c.t1, moves.teams)
+                    && either_touches(form, c, moves.first, moves.second)
+            }
         }
     }
 }
@@ -78,63 +75,4 @@ pub fn price(check: &Check, stretch: &mut [u32]) -> u64
 {
     fill(check, stretch);
     penalties::penalty(check.constraint, stretch)
-}
-
-// Stores the penalty of constraint number k, and adds it and the one that it replaces to the sums; `hard` is the constraint's byte.
-fn enter(sums: Moved, hard: u8, k: usize, new: u64, tally: &mut [u64]) -> Moved
-    requires { k < length tally.old }
-    ensures { (tally.new ≡ set tally.old k new)
-        × Adds sums.gained hard new result.gained
-        × Adds sums.lost hard (get_or tally.old k 0) result.lost }
-{
-    let old = tally[k];
-    tally[k] = new;
-    Moved {
-        gained: added(sums.gained, hard, new),
-        lost: added(sums.lost, hard, old),
-    }
-}
-
-// One touched constraint, number k.
-fn renew(sums: Moved, check: &Check, k: usize, stretch: &mut [u32], tally: &mut [u64]) -> Moved
-    requires { HasRoom check.now stretch.old × (k < length tally.old) }
-    ensures { (stretch.new ≡ of_check deviations check.now)
-        × (tally.new ≡ set tally.old k (check_penalty check.now))
-        × Adds sums.gained check.now.constraint.hard (check_penalty check.now) result.gained
-        × Adds sums.lost check.now.constraint.hard (get_or tally.old k 0) result.lost }
-{
-    let new = price(check, stretch);
-    enter(sums, check.constraint.hard, k, new, tally)
-}
-
-// Works out the constraints that are touched. Their stretches have different lengths, so `at`, where one begins, runs on: of a ledger whose parts a
-// loop splits off by `split_at_mut`, a proof knows nothing afterwards.
-pub fn walk(
-    season: SeasonView,
-    touch: Touch,
-    tables: &Tables,
-    ledger: &mut [u32],
-    tally: &mut [u64],
-) -> Moved
-    requires { Given season.bytes.now tables.now ledger.old tally.old × SoundTouch touch }
-    ensures { Reworked (decode season.entry.bytes.now) (λ k. is_touched touch ((decode season.entry.bytes.now).constraint k))
-        (x_of tables.now.meets) ledger.old tally.old ledger.new tally.new result }
-{
-    let mut sums = Moved::default();
-    let mut at = 0;
-    let sizes = season.sizes;
-    for (k, constraint) in season.constraints().enumerate() {
-        let end = at + kinds::entries_of(constraint);
-        let touched = is_touched(constraint, touch);
-        if touched {
-            let check = Check {
-                constraint,
-                sizes,
-                tables,
-            };
-            sums = renew(sums, &check, k, &mut ledger[at..end], tally);
-        }
-        at = end;
-    }
-    sums
 }

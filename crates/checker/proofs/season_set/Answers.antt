@@ -1,16 +1,18 @@
 -- Sentences 1 to 8, then the call. Assumes nothing.
 use borrow.Author.Rules.{rules}
 use Rattle.robinx.specs.Calls.{Call}
-use Rattle.checker.proofs.Exported.{call-refused, call-passed}
+use Rattle.checker.proofs.Exported.{fit, ready, call_refused, call_passed}
 use Rattle.checker.proofs.season_set.Goals as goal
 
+pub invariant_of-books : goal.invariant_of-books
+invariant_of-books c =
+    let f = fit c.in_ok-found.ensures in record { sizes = f.sizes; rules = f.rules; ledger_length = f.ledger-length; tally_length = f.tally-length }
+
 pub set-requires : goal.set-requires
-set-requires c = let found = c.in_ok-admitted.ensures.found in rw found.same found.ready
+set-requires c = ready c.in_ok-found.ensures
 
 pub returns : goal.returns
-returns c =
-    let admits = c.in_ok-admitted.ensures in call-passed admits (Call.set_slot c.args.game c.args.slot) (rw admits.found.same at c.set.ensures)
+returns c = let done = call_passed c.in_ok-found.ensures (Call.set_slot c.args.game c.args.slot) c.set.ensures.outcome in search rules
 
-pub returns-in_err-admitted : goal.returns-in_err-admitted
-returns-in_err-admitted c =
-    let refused = call-refused c.in_err-admitted.ensures (Call.set_slot c.args.game c.args.slot) in search rules
+pub returns-in_err-found : goal.returns-in_err-found
+returns-in_err-found c = let refused = call_refused c.in_err-found.ensures (Call.set_slot c.args.game c.args.slot) in search rules

@@ -3,18 +3,17 @@ use mathlib.Core.Path.{◌≡◌, ◌∙◌}
 use Prim.Native.Nat.{◌<◌, ◌≤◌}
 use native.Mathlib.Omega.{arith}
 use borrow.Author.Rules.{rules}
-use Rattle.robinx.specs.Season.{decode}
-use Rattle.robinx.specs.Calls.{buffers}
+use Rattle.walk.specs.Reworked.{instance_of, lent}
 use Rattle.calls.proofs.CallNumbers.{set-refused, set-passes}
 use Rattle.calls.proofs.Accept.{few-slots}
 use Rattle.sets.proofs.set.Goals as goal
 use Rattle.sets.proofs.set.Goals.{After-try_from, After-unwrap-b}
 
 -- the numbers are those of a game and of a slot
-passed : (c : After-try_from) → (c.args.game < (decode c.args.admitted.season.bytes.now).G) × (c.args.slot ≤ (decode c.args.admitted.season.bytes.now).P)
+passed : (c : After-try_from) → (c.args.game < (instance_of c.args.books.now).G) × (c.args.slot ≤ (instance_of c.args.books.now).P)
 passed c =
     let a = c.args in
-    set-passes _ a.admitted.season.measured.sizes (buffers a.sheet.now a.ledger.now a.tally.now) a.game a.slot c.in_ok-g.ensures.0
+    set-passes _ a.books.now.season.measured.sizes (lent a.sheet.now a.books.now) a.game a.slot c.in_ok-g.ensures.0
 
 -- .. so that of the slot is a byte
 byte : (c : After-try_from) → c.in_ok-g.slot < 256
@@ -32,11 +31,11 @@ set_to-requires c =
     let p = passed at.After-try_from in
     (c.requires, rw c.in_ok-g.ensures.1.0 p.0, rw (same at.After-unwrap-b) p.1)
 
-pub returns : goal.returns
-returns c = rw (← c.in_ok-g.ensures.1.0, ← same (goal.at.returns c).After-unwrap-b) c.set_to.ensures
+pub returns-clause-outcome : goal.returns-clause-outcome
+returns-clause-outcome c = rw (← c.in_ok-g.ensures.1.0, ← same (goal.at.returns-clause-outcome c).After-unwrap-b) c.set_to.ensures.outcome
 
-pub returns-in_err-g : goal.returns-in_err-g
-returns-in_err-g c =
+pub returns-in_err-g-clause-outcome : goal.returns-in_err-g-clause-outcome
+returns-in_err-g-clause-outcome c =
     let a = c.args in
-    let lent = buffers a.sheet.now a.ledger.now a.tally.now in
-    let refused = set-refused _ a.admitted.season.measured.sizes lent a.game a.slot c.in_err-g.field-0.0 c.in_err-g.ensures.0 in search rules
+    let sizes = a.books.now.season.measured.sizes in
+    let refused = set-refused _ sizes (lent a.sheet.now a.books.now) a.game a.slot c.in_err-g.field-0.0 c.in_err-g.ensures.0 in search rules

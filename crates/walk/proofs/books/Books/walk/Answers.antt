@@ -3,9 +3,9 @@ use borrow.Author.Rules.{rules}
 use mathlib.Core.Path.{◌≡◌, refl, sym, ◌∙◌}
 use native.Mathlib.Omega.{arith}
 use Rattle.walk.proofs.WalkTurns.{WalkTurn, turn, all}
-use Rattle.walk.proofs.Walked.{walked_none, walked-done}
-use Rattle.walk.proofs.walk.Goals as goal
-use Rattle.walk.proofs.walk.Goals.{After-entries_of}
+use Rattle.walk.proofs.Walked.{walked_none, walked-done, same_twice}
+use Rattle.walk.proofs.books.Books.walk.Goals as goal
+use Rattle.walk.proofs.books.Books.walk.Goals.{After-entries_of}
 
 pub loop-k-init : goal.loop-k-init
 loop-k-init c =
@@ -15,6 +15,7 @@ loop-k-init c =
     rw c.into_iter-k-iterator.ensures.into_iter_gives (record {
       next = search rules;
       same = rw e.source new.0;
+      books = record { season = refl; ledger = refl; tally = refl };
       counted = rw (e.source, e.count) new.1;
       walked = rw (none, e.count) (walked_none _ _ _ _ _ _ refl refl);
     })
@@ -23,12 +24,7 @@ loop-k-init c =
 here : (c : After-entries_of)
     → let l = c.loop-k in
     let a = c.args in
-    WalkTurn a.season.bytes.now a.season.sizes a.touch a.tables.now a.ledger.now a.tally.now
-    l.k-iterator.count
-    l.at
-    l.ledger
-    l.tally
-    l.sums
+    WalkTurn a.self.now a.self.now.season.sizes a.touch a.tables.now l.k-iterator.count l.at l.self.ledger.now l.self.tally.now l.sums
     c.in-Some.constraint
     c.entries_of.result
 here c =
@@ -36,26 +32,20 @@ here c =
     let read = c.in-Some.ensures.steps.0 in
     let below = rw (v.counted, v.same) at read.below in
     let constraint = rw (v.counted, v.same) at read.constraint in
-    turn c.args.season.measured c.requires.0 c.args.touch v.walked below constraint c.entries_of.ensures
+    turn c.args.self.now c.args.self.now.season.measured.sizes c.requires c.args.touch v.walked below constraint c.entries_of.ensures
 
 pub overflow_add-end : goal.overflow_add-end
 overflow_add-end c =
     let t = here (goal.at.overflow_add-end c).After-entries_of in
-    record { fits = omega (arith, t.fits, c.loop-k.invariant.walked.laid.long, c.well_formed) }
-
-pub offset_bounds-ledger-at : goal.offset_bounds-ledger-at
-offset_bounds-ledger-at c =
-    let t = here (goal.at.offset_bounds-ledger-at c).After-entries_of in
-    record { fits = omega (arith, t.fits, c.loop-k.invariant.walked.laid.long, c.well_formed) }
-
-pub slice_bounds-renew-end : goal.slice_bounds-renew-end
-slice_bounds-renew-end c = (here (goal.at.slice_bounds-renew-end c).After-entries_of).fits
+    record { fits = omega (arith, t.fits, c.loop-k.invariant.walked.laid.long) }
 
 pub invariant_of-check : goal.invariant_of-check
 invariant_of-check c = record { checkable = (here (goal.at.invariant_of-check c).After-entries_of).ready }
 
 pub renew-sums-requires : goal.renew-sums-requires
-renew-sums-requires c = let t = here (goal.at.renew-sums-requires c).After-entries_of in (t.room, rw c.in-Some.ensures.steps.1 t.counted)
+renew-sums-requires c =
+    let t = here (goal.at.renew-sums-requires c).After-entries_of in
+    (omega arith, t.fits, t.room, rw c.in-Some.ensures.steps.1 t.counted)
 
 pub loop-k-preserved-then-touched : goal.loop-k-preserved-then-touched
 loop-k-preserved-then-touched c =
@@ -66,9 +56,12 @@ loop-k-preserved-then-touched c =
     record {
       next = search rules;
       same = rw step.0.season v.same;
+      books = same_twice v.books done.same;
       counted = rw (step.0.at, step.2, v.counted);
       walked = rw step.2
-          (t.reworked (sym c.is_touched-touched.ensures ∙ c.if-touched.true) done.0 refl (rw step.1 at done.1) done.2 (rw step.1 at done.3));
+          (t.reworked (sym c.touches-touched.ensures ∙ c.if-touched.true) done.stretch (rw step.1 at done.stored)
+          done.sums.0
+          (rw step.1 at done.sums.1));
     }
 
 pub loop-k-preserved : goal.loop-k-preserved
@@ -79,13 +72,16 @@ loop-k-preserved c =
     record {
       next = search rules;
       same = rw step.0.season v.same;
+      books = v.books;
       counted = rw (step.0.at, step.2, v.counted);
-      walked = rw step.2 (t.kept (sym c.is_touched-touched.ensures ∙ c.if-touched.false));
+      walked = rw step.2 (t.kept (sym c.touches-touched.ensures ∙ c.if-touched.false));
     }
 
-pub returns : goal.returns
-returns c =
-    let g = c.requires.0 in
+pub returns-clause-reworked : goal.returns-clause-reworked
+returns-clause-reworked c =
     let v = c.loop-k.invariant in
     let end = rw (v.same, v.counted) at c.in-None.ensures.steps.0 in
-    walked-done v.walked g.ledger-length g.tally-length (end ∙ all c.args.season.measured) refl refl
+    walked-done v.walked (end ∙ all c.args.self.now)
+
+pub returns-clause-same : goal.returns-clause-same
+returns-clause-same c = c.loop-k.invariant.books
