@@ -10,12 +10,12 @@ use Rattle.played.specs.declared.Played.{Played}
 use Rattle.played.specs.Word.{word}
 
 -- the changes in a reply
-abbrev pub changes_of : Reply → Totals
-changes_of r = record { hard = word r.infeasibility; soft = word r.objective }
+abbrev pub reply_changes : Reply → Totals
+reply_changes r = record { hard = word r.infeasibility; soft = word r.objective }
 
 -- the first answer, and one answer more
 abbrev pub begun : Result Accepted Refusal → Played
-begun r = record { answer = r; sums = changes_of (reply_of r) }
+begun r = record { answer = r; sums = reply_changes (reply_of r) }
 
 abbrev pub with_answer : Played → Result Accepted Refusal → Played
-with_answer p r = record { answer = r; sums = moved_by p.sums (changes_of (reply_of r)) }
+with_answer p r = record { answer = r; sums = moved_by p.sums (reply_changes (reply_of r)) }

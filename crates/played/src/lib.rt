@@ -4,7 +4,7 @@
 
 ghost use Rattle.std.specs.Prelude.{◌≡◌};
 ghost use Rattle.replies.specs.Reply.{reply_of};
-ghost use Rattle.played.specs.AnswerList.{changes_of, begun, with_answer};
+ghost use Rattle.played.specs.AnswerList.{reply_changes, begun, with_answer};
 
 use replies::Accepted;
 use robinx::Refusal;
@@ -20,12 +20,9 @@ pub struct Played {
 // The changes in an answer: none where the call was refused.
 #[tactic(auto, using(crate::proofs::Words::word_signed), unfolding(crate::specs::Word::word))]
 pub fn changes_of(answer: Result<Accepted, Refusal>) -> Totals
-    ensures { result ≡ changes_of (reply_of answer) }
+    ensures { result ≡ reply_changes (reply_of answer) }
 {
-    match answer {
-        Ok(accepted) => accepted.change,
-        Err(_) => Totals::default(),
-    }
+    answer.map(|accepted| accepted.change).unwrap_or_default()
 }
 
 impl Played {

@@ -23,16 +23,9 @@ impl From<[u64; 3]> for Call {
 
     // Kind 0 is set, any other is exchange.
     fn from(words: [u64; 3]) -> Self {
-        let [kind, first, second] = words;
-        if kind == 0 {
-            return Self::Set {
-                game: first,
-                slot: second,
-            };
-        }
-        Self::Exchange {
-            game: first,
-            other: second,
+        match words {
+            [0, game, slot] => Self::Set { game, slot },
+            [_, game, other] => Self::Exchange { game, other },
         }
     }
 }
@@ -59,8 +52,8 @@ impl Call {
     }
 }
 
-// Opens, and makes each call of the list, three words a call, whatever the answers are. Season, sheet, ledger and tally stay parameters, as
-// they are of the exported calls: of a struct of `&mut`s each clause would have to say `entry` or `exit`, and its fields.
+// Opens, and makes each call of the list, three words a call, whatever the answers are. The buffers come one by one, as C lends them
+// to the exported calls: the list is played through those calls alone.
 pub fn play(
     season: &[u8],
     sheet: &mut [u8],

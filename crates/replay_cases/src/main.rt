@@ -27,7 +27,7 @@ fn print_items<T: Display>(rt: &impl Print, items: &[T]) -> io::Result<()> {
 
 // A sum with the last change, which is signed.
 fn print_sum(rt: &impl Print, name: &str, sum: u64, last: u64) -> io::Result<()> {
-    print!(rt; ", {name} {sum} ({:+})", totals::signed(last))
+    print!(rt; ", {name} {sum} ({:+})", last.cast_signed())
 }
 
 // Plays a list of calls on buffers of its own.
@@ -56,6 +56,7 @@ fn print_after(
 
 fn main(rt: HostRuntime) -> io::Result<()> {
     let mut input = rt.reader();
+    // of a short input what is not there is 0
     let mut season = [0u8; 114];
     input::read_full(&mut input, &mut season)?;
     let mut sheet = [0u8; 6];

@@ -5,8 +5,8 @@ use Prim.Native.Nat.{ℕ, ◌+◌, ◌<◌}
 use mathlib.Core.Logic.{◌≢◌}
 use native.Mathlib.Numerals.{add-one}
 use native.Mathlib.Omega.{arith}
-use lib.ListN.{length, take, set, get_or}
-use lib.Seq.{take-suc-set, get_or-take}
+use lib.ListN.{length, take, get_or}
+use lib.Seq.{get_or-take}
 use Rattle.std.proofs.lemmas.List.{length-take}
 use borrow.Author.Tests.{lt-ltb, le-ltb}
 use Rattle.robinx.specs.Season.{Instance, decode}
@@ -18,7 +18,7 @@ use Rattle.robinx.proofs.Lengths.{list_at}
 use Rattle.reader.specs.Sizes.{sizes_of}
 use Rattle.reader.proofs.Read.{constraints-read}
 use Rattle.report_reply.specs.ReportReply.{TallyOf}
-use Rattle.report.specs.ReportRows.{penalty_of, row_of}
+use Rattle.report.specs.ReportRows.{penalty_of, broken_row}
 use Rattle.report.specs.declared.BrokenConstraint.{BrokenConstraint}
 
 -- before the first constraint
@@ -37,10 +37,10 @@ module _ (m : Instance) (sheet : List ℕ) (c : ℕ) {p : ℕ} (e : p ≡ penalt
   unfolding broken_rows
   broken r s = rw (r, e, add-one, lt-ltb 0 (penalty_at m (timetable m sheet) c) (omega (arith, e, s)))
 
-  pub row-more : {read : Constraint} → read ≡ m.constraint c → p ≢ 0 → (out : List BrokenConstraint) (k : ℕ) → k < length out
-      → map row_of (take k out) ≡ broken_rows m sheet c
-      → map row_of (take (k + 1) (set out k (record { number = c; kind = read.kind; penalty = p }))) ≡ broken_rows m sheet (c + 1)
-  row-more r s out k h w = rw (broken r s, add-one, take-suc-set out k _ h, map-append, w)
+  pub row-more : {read : Constraint} → read ≡ m.constraint c → p ≢ 0 → (before : List BrokenConstraint)
+      → map broken_row before ≡ broken_rows m sheet c
+      → map broken_row (before ++ (record { number = c; kind = read.kind; penalty = p }) ∷ []) ≡ broken_rows m sheet (c + 1)
+  row-more r s before w = rw (broken r s, map-append, w)
 
 -- What a tally of the sheet has at each place.
 module _ (season sheet tally : List ℕ) (f : TallyOf season sheet tally) where

@@ -17,12 +17,12 @@ abbrev pub broken_of : List ℕ → List ℕ → ℕ → List (List ℕ)
 broken_of season sheet c = broken_rows (decode season) sheet c
 
 -- the row of a broken constraint
-abbrev pub row_of : BrokenConstraint → List ℕ
-row_of b = b.number ∷ b.kind ∷ b.penalty ∷ []
+abbrev pub broken_row : BrokenConstraint → List ℕ
+broken_row b = b.number ∷ b.kind ∷ b.penalty ∷ []
 
 -- .. and all rows of a report
 abbrev pub rows_of : Report → List (List ℕ)
-rows_of r = (verdict_number r.verdict ∷ r.infeasibility ∷ r.objective ∷ []) ∷ map row_of r.broken.now
+rows_of r = (verdict_number r.verdict ∷ r.infeasibility ∷ r.objective ∷ []) ∷ map broken_row r.broken.items
 
 -- the report whose rows are those of the input, or the refusal
 abbrev pub Reported : List ℕ → Result Report Refusal → Type 0

@@ -1,12 +1,12 @@
 -- Where an input is cut into season and sheet: at the length that its sizes give, or at its end.
 use mathlib.Core.Path.{◌≡◌}
 use mathlib.Core.List.{List}
-use Prim.Native.Nat.{ℕ, ◌+◌, ◌*◌, ◌<◌, ◌≤◌}
+use Prim.Native.Nat.{ℕ, ◌<◌, ◌≤◌}
 use native.Mathlib.Omega.{arith}
 use lib.ListN.{length, take, drop}
 use Rattle.std.proofs.Common.{min}
 use Rattle.std.proofs.lemmas.List.{take_min, drop_min}
-use Rattle.robinx.specs.Season.{season_length, number, games, constraints}
+use Rattle.robinx.specs.Season.{season_length}
 use Rattle.robinx.specs.Report.{season_of, sheet_of}
 
 abbrev pub CutAt : List ℕ → ℕ → Type 0
@@ -17,10 +17,6 @@ unfolding season_of sheet_of
 cut l e = rw e (omega arith, take_min (season_length l) l, drop_min (season_length l) l)
 
 -- fewer than 6 bytes are all season
-pub cut-short : (l : List ℕ) → length l < 6 → CutAt l (length l)
+pub cut_short : (l : List ℕ) → length l < 6 → CutAt l (length l)
 unfolding season_length
-cut-short l h = cut l (omega (arith, h))
-
-pub by-sizes : (l : List ℕ) {g c : ℕ} → g ≡ number 2 l 2 → c ≡ number 2 l 4 → 6 + 2 * g + 24 * c ≡ season_length l
-unfolding season_length games constraints
-by-sizes l eg ec = rw (eg, ec)
+cut_short l h = cut l (omega (arith, h))

@@ -10,13 +10,17 @@ ghost use Rattle.replies.specs.Reply.{reply_of};
 ghost use Rattle.report_reply.specs.ReportReply.{up_to_six, report_reply, TallyOf};
 
 use replies::Accepted;
-use robinx::Refusal;
+use robinx::{Refusal, Season};
 use season::Examined;
 
 // The most deviations of a season that is reported.
 pub const MOST_DEVIATIONS: usize = 6000;
 
+// The most words of its tally.
+pub const MOST_WORDS: usize = Season::CONSTRAINTS + 2;
+
 // Where the season ends and the sheet begins.
+#[tactic(auto, using(crate::proofs::Cut::cut_short))]
 pub fn season_end(input: &[u8]) -> usize
     ensures { (result ≤ length input.now) × (take result input.now ≡ season_of input.now)
         × (drop result input.now ≡ sheet_of input.now) }
@@ -24,10 +28,8 @@ pub fn season_end(input: &[u8]) -> usize
     if input.len() < 6 {
         return input.len();
     }
-    let games = reader::short(input, 2);
-    let constraints = reader::short(input, 4);
-    let end = 6 + 2 * games + 24 * constraints;
-    end.min(input.len())
+    let sizes = reader::sizes(input);
+    sizes.length().min(input.len())
 }
 
 // Any bytes, by sentences 1 to 6.
@@ -43,8 +45,11 @@ fn examine<'a>(season: &'a [u8]) -> Result<Examined<'a>, Refusal>
 }
 
 // The answer that the report is made of: a refusal by sentences 1 to 6, or that of the opening. Ledger and tally are used as far as the season asks.
-pub fn open(input: &[u8], ledger: &mut [u32], tally: &mut [u64]) -> Result<Accepted, Refusal>
-    requires { (length ledger.old ≡ most_deviations) × (length tally.old ≡ most_constraints + 2) }
+pub fn open(
+    input: &[u8],
+    ledger: &mut [u32; MOST_DEVIATIONS],
+    tally: &mut [u64; MOST_WORDS],
+) -> Result<Accepted, Refusal>
     ensures { (reply_of result ≡ report_reply input.now)
         × (report_fault input.now ≡ 0
         → TallyOf (season_of input.now) (sheet_of input.now) tally.new) }

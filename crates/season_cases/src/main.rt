@@ -15,7 +15,8 @@ fn print_case(rt: &impl Print, season: &[u8]) -> io::Result<()> {
     }
 }
 
-// A case that the input cuts off is the last, and is not printed.
+// A case that the input cuts off is the last, and is not printed. A `while let`, since no iterator of std gives blocks of lengths that
+// the data say; the rest gets shorter by each that is split off.
 fn print_cases(rt: &impl Print, input: &[u8]) -> io::Result<()> {
     let mut rest = input;
     while let Some((length, after)) = rest.split_first_chunk() {

@@ -1,6 +1,5 @@
 -- A refusal has its number; an opening that is accepted leaves the tally that the broken constraints are read from.
 use mathlib.Core.Path.{◌≡◌}
-use native.Mathlib.Omega.{arith}
 use lib.ListN.{take}
 use borrow.Author.Rules.{rules}
 use Rattle.robinx.specs.Refusals.{first_true, of_season}
@@ -22,18 +21,18 @@ clear c = rw c.season_end.ensures.1 (accepted-clear c.args.input.now c.in_ok-acc
 pub sizes-sizes-requires : goal.sizes-sizes-requires
 sizes-sizes-requires c = has-sizes _ (clear (goal.at.sizes-sizes-requires c).After-season_end)
 
-pub invariant_of-put_broken : goal.invariant_of-put_broken
-invariant_of-put_broken c = record {
-  measured = (no-fault _ (clear (goal.at.invariant_of-put_broken c).After-season_end)).measured c.sizes-sizes.ensures;
+pub invariant_of-find_broken : goal.invariant_of-find_broken
+invariant_of-find_broken c = record {
+  measured = (no-fault _ (clear (goal.at.invariant_of-find_broken c).After-season_end)).measured c.sizes-sizes.ensures.read;
 }
 
-pub put_broken-count-requires : goal.put_broken-count-requires
-put_broken-count-requires c =
-    let few = few_words _ (clear (goal.at.put_broken-count-requires c).After-season_end) c.sizes-sizes.ensures in
-    (search rules, omega (arith, few, c.requires))
+pub find_broken-broken-requires : goal.find_broken-broken-requires
+find_broken-broken-requires c =
+    let few = few_words _ (clear (goal.at.find_broken-broken-requires c).After-season_end) c.sizes-sizes.ensures.read in
+    (search rules, few)
 
 pub returns : goal.returns
 returns c =
     let told = c.in_ok-accepted.ensures in
-    rows-reported c.args.input.now c.in_ok-accepted.accepted told.0 c.season_end.ensures.1 (constraints-read _ c.sizes-sizes.ensures) _ told.1
-    c.put_broken-count.ensures.rows
+    rows-reported c.args.input.now c.in_ok-accepted.accepted told.0 c.season_end.ensures.1 (constraints-read _ c.sizes-sizes.ensures.read) _ told.1
+    c.find_broken-broken.ensures

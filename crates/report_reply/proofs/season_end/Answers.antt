@@ -1,11 +1,7 @@
--- A short input is all season; a longer one is cut at the length that its sizes give.
-use Rattle.report_reply.proofs.Cut.{cut-short, cut, by-sizes}
+-- A longer input is cut at the length that its sizes give.
+use Rattle.reader.proofs.Read.{length-asked}
+use Rattle.report_reply.proofs.Cut.{cut}
 use Rattle.report_reply.proofs.season_end.Goals as goal
 
-pub returns-then-input-lt6 : goal.returns-then-input-lt6
-returns-then-input-lt6 c = cut-short c.args.input.now c.if-input-lt6.true
-
 pub returns : goal.returns
-returns c =
-    let l = c.args.input.now in
-    cut l (rw (← by-sizes l c.short-games.ensures.0 c.short-constraints.ensures.0) c.min.ensures)
+returns c = cut _ (rw (length-asked _ c.sizes-sizes.ensures.read, ← c.length.ensures) c.min.ensures)

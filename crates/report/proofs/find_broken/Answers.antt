@@ -1,15 +1,11 @@
--- Each constraint in turn: those below c that are broken are written, at most all.
-use Prim.Native.Nat.{◌<◌}
-use native.Mathlib.Omega.{arith}
-use lib.ListN.{length}
+-- Each constraint in turn: those below c that are broken have a row, at most all.
 use borrow.Author.Rules.{rules}
-use Rattle.std.proofs.lemmas.List.{length-take}
 use Rattle.robinx.specs.Season.{decode}
 use Rattle.report.proofs.Broken.{none_yet, not-broken, row-more, penalty-read}
-use Rattle.report.proofs.put_broken.Goals as goal
+use Rattle.report.proofs.find_broken.Goals as goal
 
 pub loop-number-init : goal.loop-number-init
-loop-number-init c = record { few = search rules; rows = λ sheet f. none_yet (decode c.args.season.bytes.now) sheet }
+loop-number-init c = rw c.new-broken.ensures (record { few = search rules; rows = λ sheet f. none_yet (decode c.args.season.bytes.now) sheet })
 
 pub loop-number-preserved-then-penalty-eq0 : goal.loop-number-preserved-then-penalty-eq0
 loop-number-preserved-then-penalty-eq0 c = record {
@@ -24,7 +20,7 @@ loop-number-preserved c = record {
   few = search rules;
   rows = λ sheet f.
       let e = penalty-read _ sheet _ f c.args.season.measured.sizes c.loop-number-test.true in
-      let room : c.loop-number.count < length c.loop-number.out = omega (arith, length-take c.args.season.sizes.constraints c.args.tally.now) in
-      row-more (decode c.args.season.bytes.now) sheet c.loop-number.number e c.constraint.ensures c.if-penalty-eq0.false _
-      c.loop-number.count room (c.loop-number.invariant.rows sheet f);
+      rw c.push.ensures.items
+      (row-more (decode c.args.season.bytes.now) sheet c.loop-number.number e c.constraint.ensures c.if-penalty-eq0.false _
+      (c.loop-number.invariant.rows sheet f));
 }
