@@ -3,54 +3,50 @@
 
 #![tactic(auto)]
 
-ghost use Rattle.std.specs.Prelude.{◌≡◌, ◌∷◌, [], ◌<◌, ◌≤◌, leb, ltb, length, IfOk};
+ghost use Rattle.std.specs.Prelude.{◌≡◌, ◌∷◌, [], ◌<◌, ◌≤◌, length, IfOk, Ok, Err, if◌then◌else◌};
+ghost use Rattle.std.specs.Range.Bound.{bounds_contain};
 ghost use Rattle.robinx.specs.Refusals.{sentence, first_true, sentence12};
 ghost use Rattle.robinx.specs.RefusalNumbers.{fault_of};
 ghost use Rattle.calls.specs.CallNumbers.{set_numbers, exchange_numbers};
 
-use robinx::game::slot_of;
 use robinx::{Refusal, Season};
+use std::ops::RangeBounds;
 
-// Sentence 9, or the game. It and `slot_number` differ in the test and the refusal: one function for both would get the test as a closure that
-// has to say what it answers, or made already, with a cast of the limit at each call.
-#[tactic(auto, unfolding(robinx::specs::Refusals::first_true))]
-fn game_of(z: Season, game: u64) -> Result<usize, Refusal>
-    ensures { (fault_of result ≡ first_true (sentence 9 (leb z.games game) ∷ [])) × IfOk result (λ g. g ≡ game) }
+// The number, if the range has it, or the refusal.
+fn number_in<R: RangeBounds<usize>>(
+    range: R,
+    number: u64,
+    refusal: Refusal,
+) -> Result<usize, Refusal>
+    requires { R.has_bounds range }
+    ensures { result ≡ (if bounds_contain ⟦<usize as PartialOrd>⟧.partial_cmp (R.start_bound range) (R.end_bound range) number
+        then Ok number
+        else Err refusal) }
 {
-    match usize::try_from(game) {
-        Ok(g) if g < z.games => Ok(g),
-        _ => Err(Refusal::NoSuchGame),
+    match usize::try_from(number) {
+        Ok(n) if range.contains(&n) => Ok(n),
+        _ => Err(refusal),
     }
 }
 
-// Sentence 10, or the slot as the sheet has it: 0 is none. It is no byte yet, since of the sizes nothing is asked here.
-#[tactic(auto, unfolding(robinx::specs::Refusals::first_true))]
-fn slot_number(z: Season, slot: u64) -> Result<usize, Refusal>
-    ensures { (fault_of result ≡ first_true (sentence 10 (ltb z.slots slot) ∷ [])) × IfOk result (λ b. b ≡ slot) }
-{
-    match usize::try_from(slot) {
-        Ok(b) if b <= z.slots => Ok(b),
-        _ => Err(Refusal::NoSuchSlot),
-    }
-}
-
-// Sentences 9 and 10 of a set, in their order, or its arguments.
+// Sentences 9 and 10 of a set, in their order, or its arguments: the slot as the sheet has it, where 0 is none. It is no byte yet, since of the
+// sizes nothing is asked here.
 #[tactic(auto, unfolding(robinx::specs::Refusals::first_true))]
 pub fn set_arguments(z: Season, game: u64, slot: u64) -> Result<(usize, usize), Refusal>
     ensures { (fault_of result ≡ first_true (set_numbers z game slot)) × IfOk result (λ n. (n.0 ≡ game) × (n.1 ≡ slot)) }
 {
-    let g = game_of(z, game)?;
-    let b = slot_number(z, slot)?;
+    let g = number_in(..z.games, game, Refusal::NoSuchGame)?;
+    let b = number_in(..=z.slots, slot, Refusal::NoSuchSlot)?;
     Ok((g, b))
 }
 
 // Sentence 12.
-#[tactic(auto, using(robinx::proofs::Sheet::none_by_byte), unfolding(robinx::specs::Refusals::first_true, robinx::specs::Refusals::sentence12))]
+#[tactic(auto, unfolding(robinx::specs::Refusals::first_true, robinx::specs::Refusals::sentence12))]
 fn check_placed(sheet: &[u8], g: usize, h: usize) -> Result<(), Refusal>
     requires { (g < length sheet.now) × (h < length sheet.now) }
     ensures { fault_of result ≡ first_true (sentence 12 (sentence12 sheet.now g h) ∷ []) }
 {
-    if slot_of(sheet[g]).is_none() | slot_of(sheet[h]).is_none() {
+    if (sheet[g] == 0) | (sheet[h] == 0) {
         return Err(Refusal::UnplacedGame);
     }
     Ok(())
@@ -68,8 +64,8 @@ pub fn exchange_arguments(
     ensures { (fault_of result ≡ first_true (exchange_numbers z sheet.now game other))
         × IfOk result (λ n. (n.0 ≡ game) × (n.1 ≡ other)) }
 {
-    let g = game_of(z, game)?;
-    let h = game_of(z, other)?;
+    let g = number_in(..z.games, game, Refusal::NoSuchGame)?;
+    let h = number_in(..z.games, other, Refusal::NoSuchGame)?;
     if g == h {
         return Err(Refusal::SameGame);
     }

@@ -12,9 +12,9 @@ use admission::games_of;
 use calls::exchange_arguments;
 use replies::Accepted;
 use robinx::Refusal;
-use robinx::game::slot_of;
+use robinx::game::Slot;
 use tables::Tables;
-use touch::moves::Move;
+use touch::moves::{Move, Moves};
 use walk::Touch;
 use walk::books::Books;
 
@@ -38,12 +38,14 @@ fn swap(
     let here = sheet[g];
     let there = sheet[h];
     timetable::swap(games, sheet, tables, g, h)?;
-    let first = Move::of(games.game(g), slot_of(here), slot_of(there));
-    let second = Move::of(games.game(h), slot_of(there), slot_of(here));
+    let from = Slot::of_byte(here);
+    let to = Slot::of_byte(there);
+    let first = Move::of(games.game(g), from, to);
+    let second = Move::of(games.game(h), to, from);
     sheet[g] = there;
     sheet[h] = here;
-    let touch = Touch::of_moves(first, Some(second));
-    Ok(books::rework(books, touch, unplaced, tables))
+    let moves = Moves::of(first, Some(second));
+    Ok(books::rework(books, Touch::By(moves), unplaced, tables))
 }
 
 // Exchange, once sentences 1 to 8 are passed.

@@ -12,9 +12,9 @@ use totals::Totals;
 // The verdict on a sheet: docs/FORMAT.md, section 4.3. A definition gives each its number.
 #[derive(Clone, Copy, Debug, PartialEq, Eq)]
 pub enum Verdict {
-    Feasible,
-    Unplaced,
-    Infeasible,
+    Feasible = 0,
+    Unplaced = 1,
+    Infeasible = 2,
 }
 
 impl Verdict {
@@ -33,13 +33,9 @@ impl Verdict {
 impl From<Verdict> for u8 {
     ghost from_gives = { λ verdict number. number ≡ verdict_number verdict };
 
-    // Its number in a reply.
+    // Its number in a reply: a cast, which is how the number of a variant is read.
     fn from(verdict: Verdict) -> Self {
-        match verdict {
-            Verdict::Feasible => 0,
-            Verdict::Unplaced => 1,
-            Verdict::Infeasible => 2,
-        }
+        verdict as u8
     }
 }
 

@@ -1,8 +1,8 @@
 -- Facts about sums, largest values and tests over 0 .. n − 1. Assumes nothing.
 use mathlib.Core.Path.{◌≡◌, refl, sym, ap, ◌∙◌}
-use mathlib.Core.List.{List, ◌++◌}
+use mathlib.Core.List.{List, ◌++◌, map-id}
 use mathlib.Core.Bool.{Bool, true, false, ◌||◌, or-true, or-false, or_comm, true≢false}
-use Prim.Native.Nat.{ℕ, zero, suc, ◌+◌, ◌*◌, ◌<◌, ◌≤◌, max}
+use Prim.Native.Nat.{ℕ, zero, suc, ◌+◌, ◌*◌, ◌<◌, ◌≤◌}
 use native.Mathlib.Omega.{arith}
 use native.Mathlib.Numerals.{add-one}
 use native.Mathlib.Nat.{add-zero, add-suc}
@@ -10,8 +10,10 @@ use native.Mathlib.Decide.{dec_lt, le_ind}
 use lib.Dec.{ltb}
 use borrow.Author.Tests.{lt-ltb}
 use Rattle.std.specs.Bool.{Decides}
+use Rattle.std.specs.List.{sum_by, range_with_len}
 use Rattle.std.proofs.lemmas.Bool.{false_from_ne_true}
 use Rattle.std.proofs.lemmas.Bool.Decides.{Decides-below_or, not_from_Decides}
+use Rattle.std.proofs.lemmas.List.FromFn.{sum_by-map-range_with_len_more}
 use Rattle.robinx.specs.Sums.{sum_to, max_to, cat_to, any_to, only}
 
 pub only-le : (b : Bool) (v : ℕ) → only b v ≤ v
@@ -33,10 +35,6 @@ only_none false = refl
 pub sum_step : (f : ℕ → ℕ) (k : ℕ) → sum_to f (k + 1) ≡ sum_to f k + f k
 unfolding sum_to
 sum_step f k = rw add-one
-
-pub max-step : (f : ℕ → ℕ) (k : ℕ) → max_to f (k + 1) ≡ max (max_to f k) (f k)
-unfolding max_to
-max-step f k = rw add-one
 
 pub cat-step : (f : ℕ → List ℕ) (k : ℕ) → cat_to f (k + 1) ≡ cat_to f k ++ f k
 unfolding cat_to
@@ -153,3 +151,11 @@ any-is-sum p (suc n) = go (p n) (sum_to (λ k. only (p k) 1) n) (any-is-sum p n)
     go : (b : Bool) (s : ℕ) → any_to p n ≡ ltb 0 s → any_to p n || b ≡ ltb 0 (s + only b 1)
     go true s ih = or-true (any_to p n) ∙ sym (lt-ltb 0 (s + 1) (omega arith))
     go false s ih = or-false (any_to p n) ∙ ih ∙ ap (ltb 0) (sym (add-zero s))
+
+-- a sum over the numbers below n, in std's words
+pub sum_to-range : (f : ℕ → ℕ) (n : ℕ) → sum_to f n ≡ sum_by f (range_with_len 0 n)
+unfolding sum_to
+sum_to-range f zero = refl
+sum_to-range f (suc n) =
+    ap (λ (v : ℕ). v + f n) (sum_to-range f n)
+    ∙ sym (rw (add-one n, map-id, map-id) at (sum_by-map-range_with_len_more f (λ k. k) 0 n n (omega arith)))

@@ -22,6 +22,7 @@ smallest [] = 0
 smallest (d ∷ []) = d
 smallest (d ∷ (e ∷ l)) = min d (smallest (e ∷ l))
 
+-- the number of each function, as a constraint's byte has it (FORMAT 2)
 abbrev pub function_number : Function → ℕ
 function_number Sum = 1
 function_number SquareOfSum = 2

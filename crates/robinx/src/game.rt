@@ -2,9 +2,8 @@
 
 #![tactic(auto)]
 
-ghost use Rattle.std.specs.Prelude.{◌≡◌, ◌<◌};
-ghost use Rattle.robinx.specs.Season.{most_teams};
-ghost use Rattle.robinx.specs.Sheet.{byte_of};
+ghost use Rattle.std.specs.Prelude.{◌≡◌, ◌<◌, ◌≤◌};
+ghost use Rattle.robinx.specs.Season.{most_teams, most_slots};
 
 // The team at home and its guest.
 #[derive(Clone, Copy)]
@@ -15,9 +14,22 @@ pub struct Game {
     pub ghost away_team: { away < most_teams },
 }
 
-// The slot, counted from 0, that a byte of a sheet stands for.
-pub fn slot_of(byte: u8) -> Option<u8>
-    ensures { byte_of result ≡ byte }
-{
-    byte.checked_sub(1)
+// A slot, counted from 0.
+#[derive(Clone, Copy, PartialEq, Eq)]
+pub struct Slot {
+    pub number: u8,
+    pub ghost bound: { number < most_slots },
+}
+
+impl Slot {
+    ghost use Rattle.robinx.specs.Sheet.{byte_of};
+
+    // The slot that a byte of a sheet stands for: bytes count slots from 1, and 0 is none.
+    pub fn of_byte(byte: u8) -> Option<Self>
+        requires { byte ≤ most_slots }
+        ensures { byte_of result ≡ byte }
+    {
+        let number = byte.checked_sub(1)?;
+        Some(Self { number })
+    }
 }

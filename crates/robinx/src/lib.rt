@@ -225,43 +225,29 @@ pub struct Reply {
     pub objective: i64,
 }
 
-// Why a call or a report is refused: the sentences of docs/FORMAT.md, section 6, in their order. A definition gives each its number.
+// Why a call or a report is refused: the sentences of docs/FORMAT.md, section 6. A definition gives each its number too.
 #[derive(Clone, Copy, Debug, PartialEq, Eq)]
 pub enum Refusal {
-    ShortSeason,
-    SizeOutOfRange,
-    SeasonLength,
-    BadGame,
-    BadConstraint,
-    TooManyDeviations,
-    BufferLength,
-    BadSheet,
-    NoSuchGame,
-    NoSuchSlot,
-    SameGame,
-    UnplacedGame,
-    TeamBusy,
+    ShortSeason = 1,
+    SizeOutOfRange = 2,
+    SeasonLength = 3,
+    BadGame = 4,
+    BadConstraint = 5,
+    TooManyDeviations = 6,
+    BufferLength = 7,
+    BadSheet = 8,
+    NoSuchGame = 9,
+    NoSuchSlot = 10,
+    SameGame = 11,
+    UnplacedGame = 12,
+    TeamBusy = 13,
 }
 
 impl From<Refusal> for u8 {
     ghost from_gives = { λ refusal number. number ≡ number_of refusal };
 
-    // The number of the sentence.
+    // The number of the sentence: a cast, which is how the number of a variant is read.
     fn from(refusal: Refusal) -> Self {
-        match refusal {
-            Refusal::ShortSeason => 1,
-            Refusal::SizeOutOfRange => 2,
-            Refusal::SeasonLength => 3,
-            Refusal::BadGame => 4,
-            Refusal::BadConstraint => 5,
-            Refusal::TooManyDeviations => 6,
-            Refusal::BufferLength => 7,
-            Refusal::BadSheet => 8,
-            Refusal::NoSuchGame => 9,
-            Refusal::NoSuchSlot => 10,
-            Refusal::SameGame => 11,
-            Refusal::UnplacedGame => 12,
-            Refusal::TeamBusy => 13,
-        }
+        refusal as u8
     }
 }

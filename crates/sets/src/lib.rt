@@ -1,5 +1,5 @@
-// Set for a call that has passed sentences 1 to 8 (`Ready`, of books, sheet and tables). The three come one by one, since each is lent to another
-// function here.
+// Set for a call that has passed sentences 1 to 8 (`Ready`, of books, sheet and tables). It is a clause and no ghost field of a struct of the three:
+// tables and sheet change one after the other, and where a team is busy the tables are no matter.
 
 #![tactic(auto)]
 
@@ -13,9 +13,9 @@ use admission::games_of;
 use calls::set_arguments;
 use replies::Accepted;
 use robinx::Refusal;
-use robinx::game::slot_of;
+use robinx::game::Slot;
 use tables::Tables;
-use touch::moves::Move;
+use touch::moves::{Move, Moves};
 use walk::Touch;
 use walk::books::Books;
 
@@ -35,13 +35,13 @@ fn set_to(
         ≡ after_entry (instance_of books.old) (lent sheet.old books.old) (set_slot g b) }
 {
     let games = games_of(books.season);
-    let from = slot_of(sheet[g]);
-    let to = slot_of(b);
+    let from = Slot::of_byte(sheet[g]);
+    let to = Slot::of_byte(b);
     timetable::reslot(games, sheet, tables, g, to)?;
-    let touch = Touch::of_moves(Move::of(games.game(g), from, to), None);
+    let moves = Moves::of(Move::of(games.game(g), from, to), None);
     let left = unplaced - usize::from(from.is_none()) + usize::from(to.is_none());
     sheet[g] = b;
-    Ok(books::rework(books, touch, left, tables))
+    Ok(books::rework(books, Touch::By(moves), left, tables))
 }
 
 // Set, once sentences 1 to 8 are passed.

@@ -3,13 +3,13 @@
 
 #![tactic(auto)]
 
-ghost use Rattle.std.specs.Prelude.{◌≡◌, ◌<◌, ◌≤◌, is_ok};
+ghost use Rattle.std.specs.Prelude.{◌≡◌, ◌<◌, is_ok};
 ghost use Rattle.robinx.specs.Season.{most_teams, most_slots};
 ghost use Rattle.robinx.specs.Sheet.{byte_of};
 ghost use Rattle.robinx.specs.declared.Refusal.TheVariants.{TeamBusy};
 ghost use Rattle.tables.specs.Tables.{busy, taken_out_of, Tried, Empty};
 
-use robinx::game::Game;
+use robinx::game::{Game, Slot};
 use robinx::{Refusal, Season, Slots};
 
 // A team would have two games in a slot.
@@ -24,8 +24,8 @@ impl From<Clash> for Refusal {
     }
 }
 
-// The home-away patterns of all teams: the slots in which each plays at home, and those in which it plays away. They travel by value, as the
-// customer named it, and so apart from the tables, which no call copies.
+// The home-away patterns of all teams: the slots in which each plays at home, and those in which it plays away. Two arrays of masks, by value: the
+// customer named this form. The tables, which no call copies, have the same two.
 #[derive(Clone, Copy)]
 pub struct Patterns {
     pub home: [Slots; Season::TEAMS],
@@ -41,7 +41,7 @@ pub struct Tables {
 }
 
 impl Tables {
-    // No game is placed. Tables are made by a call, empty (`Empty`), and lent from there on: a function that made them would copy 8.7 KB.
+    // No game is placed. A call makes its tables here, and they are lent from there on, to be filled too (`Empty`): they have 8.7 KB.
     pub fn new() -> Self
         ensures { Empty result }
     {
@@ -61,8 +61,7 @@ impl Tables {
     }
 
     // Puts a game into a slot, or changes nothing where one of its teams is busy or there is no slot.
-    pub fn put(&mut self, game: Game, slot: Option<u8>) -> Result<(), Clash>
-        requires { byte_of slot ≤ most_slots }
+    pub fn put(&mut self, game: Game, slot: Option<Slot>) -> Result<(), Clash>
         ensures { Tried (is_ok result) game.home game.away (byte_of slot) self.old self.new }
     {
         let Some(slot) = slot else {
@@ -70,7 +69,7 @@ impl Tables {
         };
         let i = usize::from(game.home);
         let j = usize::from(game.away);
-        let k = usize::from(slot);
+        let k = usize::from(slot.number);
         if self.busy(i, k) | self.busy(j, k) {
             return Err(Clash);
         }
@@ -81,8 +80,7 @@ impl Tables {
     }
 
     // Takes a game out of the slot that it has, if any.
-    pub fn take_out(&mut self, game: Game, slot: Option<u8>)
-        requires { byte_of slot ≤ most_slots }
+    pub fn take_out(&mut self, game: Game, slot: Option<Slot>)
         ensures { self.new ≡ taken_out_of game.home game.away (byte_of slot) self.old }
     {
         let Some(slot) = slot else {
@@ -90,7 +88,7 @@ impl Tables {
         };
         let i = usize::from(game.home);
         let j = usize::from(game.away);
-        let k = usize::from(slot);
+        let k = usize::from(slot.number);
         self.home[i] = masks::without(self.home[i], k);
         self.away[j] = masks::without(self.away[j], k);
         self.meets[i][j] = masks::without(self.meets[i][j], k);

@@ -8,7 +8,7 @@ ghost use Rattle.timetable.specs.OfSheet.{Teams};
 
 use robinx::game::Game;
 
-// The home team and the away team of each.
+// The home team and the away team of each: two lists, since they lie one after the other in a season's bytes, which are lent.
 #[derive(Clone, Copy)]
 pub struct Games<'a> {
     pub homes: &'a [u8],

@@ -12,10 +12,10 @@ pub mod games;
 
 use games::Games;
 use robinx::Refusal;
-use robinx::game::{Game, slot_of};
+use robinx::game::{Game, Slot};
 use tables::{Clash, Tables};
 
-// Puts every placed game into empty tables, and counts the games that have no slot in the same `for`: a call looks at the games once. A sheet
+// Puts every placed game into empty tables, and counts the games that have no slot in the same `for`: a call goes over the sheet once. A sheet
 // does not fit where a byte is above p or a team would be twice in a slot; the tables are no matter then.
 pub fn build(games: Games, sheet: &[u8], p: usize, tables: &mut Tables) -> Result<usize, Refusal>
     requires { (length sheet.now ≡ length games.homes.now) × (p ≤ most_slots) × Empty tables.old }
@@ -26,7 +26,7 @@ pub fn build(games: Games, sheet: &[u8], p: usize, tables: &mut Tables) -> Resul
         if p < usize::from(b) {
             return Err(Refusal::BadSheet);
         }
-        let slot = slot_of(b);
+        let slot = Slot::of_byte(b);
         tables
             .put(Game { home, away }, slot)
             .map_err(|_| Refusal::BadSheet)?;
@@ -41,15 +41,15 @@ pub fn reslot(
     sheet: &[u8],
     tables: &mut Tables,
     g: usize,
-    slot: Option<u8>,
+    slot: Option<Slot>,
 ) -> Result<(), Clash>
     requires { InRange most_teams games.homes.now games.aways.now sheet.now
         × Fits most_teams true tables.old games.homes.now games.aways.now sheet.now
-        × (g < length games.homes.now) × (byte_of slot ≤ most_slots) }
+        × (g < length games.homes.now) }
     ensures { Fits most_teams (is_ok result) tables.new games.entry.homes.now games.entry.aways.now (set sheet.now g (byte_of slot)) }
 {
     let game = games.game(g);
-    tables.take_out(game, slot_of(sheet[g]));
+    tables.take_out(game, Slot::of_byte(sheet[g]));
     tables.put(game, slot)
 }
 
@@ -69,8 +69,8 @@ pub fn swap(
 {
     let first = games.game(g);
     let second = games.game(h);
-    let here = slot_of(sheet[g]);
-    let there = slot_of(sheet[h]);
+    let here = Slot::of_byte(sheet[g]);
+    let there = Slot::of_byte(sheet[h]);
     tables.take_out(first, here);
     tables.take_out(second, there);
     tables.put(first, there)?;

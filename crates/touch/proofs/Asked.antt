@@ -10,6 +10,7 @@ use Rattle.robinx.specs.Kinds.{form_at}
 use Rattle.robinx.specs.Touch.{teams_touch, slot_touches, scope_of, hits, touches}
 use Rattle.robinx.specs.declared.Constraint.{Constraint}
 use Rattle.robinx.specs.declared.Form.{Form}
+use Rattle.robinx.specs.declared.game.Slot.{Slot}
 use Rattle.robinx.specs.declared.TouchTeams.{TouchTeams}
 use Rattle.robinx.specs.declared.TouchTeams.TheVariants.{Nobody, OneInT1, Across, HomeAndAway, BothInT1}
 use Rattle.touch.specs.Touched.{at_slot, by_row, by_row_too, AsksForT1, PassedOver, Named, NamedToo, touched_by_move, touched_too}
@@ -23,10 +24,10 @@ module _ (c : Constraint) (i j : ℕ) where
   abbrev slot : ℕ → Bool
   slot = slot_touches (form_at c.kind).slots (slots_of c)
 
-  hits-is : (b : Option ℕ) → hits c i j (byte_of b) ≡ teams && at_slot slot b
+  hits-is : (b : Option Slot) → hits c i j (byte_of b) ≡ teams && at_slot slot b
   unfolding scope_of at_slot
   hits-is None = sym (and-false teams)
-  hits-is (Some k) = refl
+  hits-is (Some s) = refl
 
 shared : (t a b : Bool) → (t && a) || (t && b) ≡ t && (a || b)
 shared true a b = refl

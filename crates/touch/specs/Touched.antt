@@ -6,13 +6,14 @@ use Rattle.robinx.specs.Sheet.{byte_of}
 use Rattle.robinx.specs.Touch.{teams_touch, slot_touches, touches}
 use Rattle.robinx.specs.declared.Constraint.{Constraint}
 use Rattle.robinx.specs.declared.Form.{Form}
+use Rattle.robinx.specs.declared.game.Slot.{Slot}
 use Rattle.robinx.specs.declared.TouchTeams.{TouchTeams}
 use Rattle.touch.specs.declared.moves.Move.{Move}
 
 -- a test of slots at the slot that a game has; where it has none the test fails
-unfoldable pub at_slot : (ℕ → Bool) → Option ℕ → Bool
+unfoldable pub at_slot : (ℕ → Bool) → Option Slot → Bool
 at_slot p None = false
-at_slot p (Some k) = p k
+at_slot p (Some slot) = p slot.number
 
 -- the move of game (i, j) from the slot of byte a to that of byte b
 pub record MoveOf (i j a b : ℕ) (v : Move) : Type 0 where

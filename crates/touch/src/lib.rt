@@ -4,15 +4,15 @@
 #![tactic(auto)]
 
 ghost use Rattle.std.specs.Prelude.{◌≡◌, true, ◌||◌, ◌<◌, ◌≤◌};
-ghost use Rattle.robinx.specs.Season.{most_teams, most_slots};
-ghost use Rattle.robinx.specs.Sheet.{byte_of};
+ghost use Rattle.robinx.specs.Season.{most_teams};
 ghost use Rattle.robinx.specs.Touch.{teams_touch, slot_touches};
 ghost use Rattle.touch.specs.Touched.{at_slot, AsksForT1, PassedOver, by_row, by_row_too};
 
 pub mod moves;
 
 use groups::is_in;
-use moves::Move;
+use moves::{Move, Moves};
+use robinx::game::Slot;
 use robinx::{Constraint, Form, Slots, TouchSlots, TouchTeams};
 
 // A move's game is such as the row asks. Both teams are looked up, without a branch between them.
@@ -56,16 +56,16 @@ pub fn passed_over(f: Form, t1: u32, teams: u32) -> bool
 
 // The slot of a game is such as the row asks; that of an unplaced one is not.
 #[tactic(auto, unfolding(robinx::specs::Touch::slot_touches, crate::specs::Touched::at_slot))]
-fn slot_touches(asked: TouchSlots, s: Slots, slot: Option<u8>) -> bool
-    requires { byte_of slot ≤ most_slots }
+fn slot_touches(asked: TouchSlots, s: Slots, slot: Option<Slot>) -> bool
     ensures { result ≡ at_slot (slot_touches asked s) slot }
 {
-    let Some(k) = slot else {
+    let Some(slot) = slot else {
         return false;
     };
+    let k = usize::from(slot.number);
     match asked {
-        TouchSlots::InS => masks::is_in(s, usize::from(k)),
-        TouchSlots::UpToLastOfS => masks::last_reach(s, usize::from(k)),
+        TouchSlots::InS => masks::is_in(s, k),
+        TouchSlots::UpToLastOfS => masks::last_reach(s, k),
         TouchSlots::AnySlot => true,
     }
 }
@@ -81,8 +81,8 @@ fn touches(f: Form, c: Constraint, v: Move) -> bool
 }
 
 // An exchange touches what either of its moves touches.
-pub fn either_touches(f: Form, c: Constraint, first: Move, second: Option<Move>) -> bool
-    ensures { result ≡ by_row f c first || by_row_too f c second }
+pub fn either_touches(f: Form, c: Constraint, moves: &Moves) -> bool
+    ensures { result ≡ by_row f c moves.now.first || by_row_too f c moves.now.second }
 {
-    touches(f, c, first) || second.is_some_and(|v| touches(f, c, v))
+    touches(f, c, moves.first) || moves.second.is_some_and(|v| touches(f, c, v))
 }

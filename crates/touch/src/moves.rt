@@ -1,28 +1,25 @@
-// The move of a game.
+// The move of a game, and the moves of a call.
 
 #![tactic(auto)]
 
-ghost use Rattle.std.specs.Prelude.{◌≤◌};
-ghost use Rattle.robinx.specs.Season.{most_slots};
+ghost use Rattle.std.proofs.Props.{props};
 ghost use Rattle.robinx.specs.Sheet.{byte_of};
+ghost use Rattle.touch.specs.Touched.{Named, NamedToo};
 
-use robinx::game::Game;
+use robinx::game::{Game, Slot};
 
 // A game goes from one slot to another, and may have none before or after.
 #[derive(Clone, Copy)]
 pub struct Move {
     pub game: Game,
-    pub from: Option<u8>,
-    pub to: Option<u8>,
-    pub ghost from_slot: { byte_of from ≤ most_slots },
-    pub ghost to_slot: { byte_of to ≤ most_slots },
+    pub from: Option<Slot>,
+    pub to: Option<Slot>,
 }
 
 impl Move {
-    ghost use Rattle.touch.specs.Touched.{MoveOf, Named, NamedToo};
+    ghost use Rattle.touch.specs.Touched.{MoveOf};
 
-    pub fn of(game: Game, from: Option<u8>, to: Option<u8>) -> Self
-        requires { (byte_of from ≤ most_slots) × (byte_of to ≤ most_slots) }
+    pub fn of(game: Game, from: Option<Slot>, to: Option<Slot>) -> Self
         ensures { MoveOf game.home game.away (byte_of from) (byte_of to) result }
     {
         Self { game, from, to }
@@ -34,12 +31,29 @@ impl Move {
     {
         groups::one(usize::from(self.game.home)) | groups::one(usize::from(self.game.away))
     }
+}
 
-    // The group of its teams and of those of a second move, if there is one.
+// One or two moves, with the teams of both.
+#[derive(Clone, Copy)]
+pub struct Moves {
+    pub teams: u32,
+    pub first: Move,
+    pub second: Option<Move>,
+    pub ghost first_teams: { Named teams first },
+    pub ghost second_teams: { NamedToo teams second } by { Prim.hlevel props },
+}
+
+impl Moves {
+    ghost use Rattle.std.specs.Prelude.{◌≡◌};
+
     #[tactic(auto, using(crate::proofs::Teams::named_rules))]
-    pub fn teams_with(self, second: Option<Self>) -> u32
-        ensures { Named result self × NamedToo result second }
+    pub fn of(first: Move, second: Option<Move>) -> Self
+        ensures { (result.first ≡ first) × (result.second ≡ second) }
     {
-        self.teams() | second.map_or(0, Self::teams)
+        Self {
+            teams: first.teams() | second.map_or(0, Move::teams),
+            first,
+            second,
+        }
     }
 }

@@ -12,18 +12,18 @@ use reader::view::SeasonView;
 use tables::Tables;
 use totals::added;
 
-// Ledger and tally as C lends them, with their season: no sentence refuses it, and they have its lengths. That the books stay those of one season
-// and the same slices (`SameBooks`) is a clause in each function that writes to them, so that their lender knows what was written; that the tables
-// are those of its teams (`Tied`) is one where tables come from outside.
+// Ledger and tally as C lends them, with their season: its sizes and constraints keep the rules, and they have its lengths. That the books stay
+// those of one season and the same slices (`SameBooks`) is a clause in each function that writes to them, so that their lender knows what was
+// written; that the tables are those of its teams (`Tied`) is one where tables come from outside.
 #[derive(Drop)]
 pub struct Books<'s, 'l, 't> {
     pub season: SeasonView<'s>,
     pub ledger: &'l mut [u32],
     pub tally: &'t mut [u64],
-    ghost sizes: { sentence2 (decode season.bytes.now) ≡ false },
-    ghost rules: { sentence5 (decode season.bytes.now) ≡ false },
-    ghost ledger_length: { length ledger.now ≡ all_entries (decode season.bytes.now) },
-    ghost tally_length: { length tally.now ≡ season.sizes.constraints + 2 },
+    pub ghost sizes: { sentence2 (decode season.bytes.now) ≡ false },
+    pub ghost rules: { sentence5 (decode season.bytes.now) ≡ false },
+    pub ghost ledger_length: { length ledger.now ≡ all_entries (decode season.bytes.now) },
+    pub ghost tally_length: { length tally.now ≡ season.sizes.constraints + 2 },
 }
 
 impl Books<'_, '_, '_> {

@@ -8,14 +8,11 @@ ghost use Rattle.robinx.specs.Deviations.{deviations};
 ghost use Rattle.tables.specs.Tables.{x_of};
 ghost use Rattle.opponents.specs.Figures.{of_check, HasRoom};
 ghost use Rattle.robinx.specs.declared.Constraint.{Constraint};
-ghost use Rattle.touch.specs.Touched.{touched_by_move, touched_too};
 ghost use Rattle.totals.specs.RunningTotals.{Adds};
-ghost use Rattle.walk.specs.Walk.{check_penalty, MovesOf, is_touched};
+ghost use Rattle.walk.specs.Walk.{check_penalty, is_touched};
 
 pub mod books;
-pub mod moves;
 
-use crate::moves::Moves;
 use figures::fill;
 use kinds::form_of;
 use opponents::check::Check;
@@ -23,7 +20,7 @@ use reader::view::SeasonView;
 use robinx::{Constraint, Kind};
 use tables::Tables;
 use totals::{Totals, added};
-use touch::moves::Move;
+use touch::moves::Moves;
 use touch::{either_touches, passed_over};
 
 // What a call changes: everything, or what is touched by its moves. An Option would have the shape, but its None would read as nothing changed.
@@ -41,28 +38,15 @@ pub struct Moved {
 }
 
 impl Touch {
-    // What one or two moves touch.
-    pub fn of_moves(first: Move, second: Option<Move>) -> Self
-        ensures moves { MovesOf result first second }
-        ensures touched { (c : Constraint) → is_touched result c ≡ touched_by_move first c || touched_too second c }
-    {
-        Self::By(Moves {
-            teams: first.teams_with(second),
-            first,
-            second,
-        })
-    }
-
     // Most constraints have no team of the moves in T1, and are passed over.
-    fn touches(self, c: Constraint) -> bool
-        ensures { result ≡ is_touched self c }
+    fn touches(&self, c: Constraint) -> bool
+        ensures { result ≡ is_touched self.now c }
     {
         match self {
             Self::Everything => true,
             Self::By(moves) => {
                 let form = form_of(Kind::from(c.kind));
-                !passed_over(form, c.t1, moves.teams)
-                    && either_touches(form, c, moves.first, moves.second)
+                !passed_over(form, c.t1, moves.teams) && either_touches(form, c, moves)
             }
         }
     }

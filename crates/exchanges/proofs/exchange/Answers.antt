@@ -17,9 +17,6 @@ swap-requires c =
     let p = exchange-passes _ a.books.now.season.measured.sizes (lent a.sheet.now a.books.now) a.game a.other told.0 in
     rw (told.1.0, told.1.1) (c.requires, p.0, p.1, p.2, p.3)
 
-pub returns-clause-outcome : goal.returns-clause-outcome
-returns-clause-outcome c = let n = c.in_ok-g.ensures.1 in rw (n.0, n.1) at c.swap.ensures.outcome
-
 pub returns-in_err-g-clause-outcome : goal.returns-in_err-g-clause-outcome
 returns-in_err-g-clause-outcome c =
     let a = c.args in

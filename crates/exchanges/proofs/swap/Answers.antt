@@ -1,22 +1,17 @@
 -- The tables and the figures follow the sheet, and as many games are unplaced as before. Assumes nothing.
-use lib.ListN.{length-set}
+use mathlib.Core.Path.{refl}
 use borrow.Author.Rules.{rules}
 use Rattle.robinx.specs.Season.{decode}
 use Rattle.robinx.specs.Calls.{Call, moved}
+use Rattle.walk.specs.declared.Touch.TheVariants.{By}
 use Rattle.calls.proofs.Outcomes.{exchange-touched}
 use Rattle.calls.proofs.Accept.{range-most, as-many-slots}
-use Rattle.calls.proofs.Accept.{in-home, in-sheet, slot-possible, Taken, exchange-taken, exchange-busy, tied-after, call-is, unplaced-after-exchange}
+use Rattle.calls.proofs.Accept.{in-home, slot-possible, Taken, exchange-taken, exchange-busy, tied-after, call-is, unplaced-after-exchange}
 use Rattle.exchanges.proofs.swap.Goals as goal
 use Rattle.exchanges.proofs.swap.Goals.{In_ok-swap}
 
 pub games_of-games-requires : goal.games_of-games-requires
 games_of-games-requires c = (range-most c.requires.0).teams
-
-pub bounds-sheet-g : goal.bounds-sheet-g
-bounds-sheet-g c = in-sheet c.requires.0 c.requires.1
-
-pub bounds-sheet-h : goal.bounds-sheet-h
-bounds-sheet-h c = in-sheet c.requires.0 c.requires.2
 
 pub swap-requires : goal.swap-requires
 swap-requires c =
@@ -27,24 +22,14 @@ swap-requires c =
 pub game-requires : goal.game-requires
 game-requires c = rw c.games_of-games.ensures.0 (in-home c.requires.0 c.requires.1)
 
-pub of-first-requires : goal.of-first-requires
-of-first-requires c =
-    let p = c.requires in
-    rw (c.slot_of.ensures, c.slot_of-2.ensures) (slot-possible p.0 p.1, slot-possible p.0 p.2)
-
 pub game-requires-2 : goal.game-requires-2
 game-requires-2 c = rw c.games_of-games.ensures.0 (in-home c.requires.0 c.requires.2)
 
-pub of-second-requires : goal.of-second-requires
-of-second-requires c =
-    let p = c.requires in
-    rw (c.slot_of-3.ensures, c.slot_of-4.ensures) (slot-possible p.0 p.2, slot-possible p.0 p.1)
+pub of_byte-from-requires : goal.of_byte-from-requires
+of_byte-from-requires c = slot-possible c.requires.0 c.requires.1
 
-pub bounds-sheet-g-2 : goal.bounds-sheet-g-2
-bounds-sheet-g-2 c = in-sheet c.requires.0 c.requires.1
-
-pub bounds-sheet-h-2 : goal.bounds-sheet-h-2
-bounds-sheet-h-2 c = rw length-set (in-sheet c.requires.0 c.requires.2)
+pub of_byte-to-requires : goal.of_byte-to-requires
+of_byte-to-requires c = slot-possible c.requires.0 c.requires.2
 
 taken : (c : In_ok-swap)
     → Taken (decode c.args.books.now.season.bytes.now) c.args.sheet.now (Call.exchange c.args.g c.args.h) c.swap.new.tables
@@ -65,9 +50,9 @@ returns-clause-outcome c =
     let games = c.games_of-games.ensures in
     let m = decode a.books.now.season.bytes.now in
     call-is p.0 (Call.exchange a.g a.h) (taken (goal.at.returns-clause-outcome c).In_ok-swap) c.rework.ensures.answered
-    (exchange-touched m a.sheet.now c.of_moves-touch.result c.of_moves-touch.ensures.touched a.g a.h
-    (rw (c.game.ensures.0, c.game.ensures.1, games.0, games.1, c.slot_of.ensures, c.slot_of-2.ensures) at c.of-first.ensures)
-    (rw (c.game-2.ensures.0, c.game-2.ensures.1, games.0, games.1, c.slot_of-3.ensures, c.slot_of-4.ensures) at c.of-second.ensures))
+    (exchange-touched m a.sheet.now (By c.of-moves.result) (λ k. rw (c.of-moves.ensures.0, c.of-moves.ensures.1) refl) a.g a.h
+    (rw (c.game.ensures.0, c.game.ensures.1, games.0, games.1, c.of_byte-from.ensures, c.of_byte-to.ensures) at c.of-first.ensures)
+    (rw (c.game-2.ensures.0, c.game-2.ensures.1, games.0, games.1, c.of_byte-from.ensures, c.of_byte-to.ensures) at c.of-second.ensures))
     (unplaced-after-exchange a.sheet.now a.g a.h m.G p.1 p.2 p.3 (as-many-slots p.0) p.0.count p.4)
 
 pub returns-in_err-swap-clause-outcome : goal.returns-in_err-swap-clause-outcome

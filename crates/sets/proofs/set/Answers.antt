@@ -31,9 +31,6 @@ set_to-requires c =
     let p = passed at.After-try_from in
     (c.requires, rw c.in_ok-g.ensures.1.0 p.0, rw (same at.After-unwrap-b) p.1)
 
-pub returns-clause-outcome : goal.returns-clause-outcome
-returns-clause-outcome c = rw (← c.in_ok-g.ensures.1.0, ← same (goal.at.returns-clause-outcome c).After-unwrap-b) c.set_to.ensures.outcome
-
 pub returns-in_err-g-clause-outcome : goal.returns-in_err-g-clause-outcome
 returns-in_err-g-clause-outcome c =
     let a = c.args in

@@ -40,7 +40,7 @@ returns-in_err-map_err c =
     let t = turn (goal.at.returns-in_err-map_err c).In-Some in
     let sheet : c.in_err-map_err.field-0.0 ≡ BadSheet = grind arith in
     let low : c.in-Some.field-0-1.now ≤ c.args.p = rw c.from.ensures at c.if-p-from.false in
-    let tried = rw (c.slot_of-slot.ensures, t.first, t.second, t.third) at c.put.ensures in
+    let tried = rw (c.of_byte-slot.ensures, t.first, t.second, t.third) at c.put.ensures in
     let busy = ends-busy r.0 c.loop-home.invariant t.within r.1 (rw t.third at low) tried (sym c.in_err-map_err.ensures.variant) in
     search rules
 
@@ -50,7 +50,7 @@ overflow_add-unplaced c =
     let n = length c.loop-home.yielded in
     let t = turn (goal.at.overflow_add-unplaced c).In-Some in
     let most = unplaced-low s (n + 1) in
-    let one = counts-none _ _ c.is_none.ensures c.from-unplaced.ensures (c.slot_of-slot.ensures ∙ t.third) in
+    let one = counts-none _ _ c.is_none.ensures c.from-unplaced.ensures (c.of_byte-slot.ensures ∙ t.third) in
     let more = unplaced-next s n c.loop-home.invariant.count one in
     search rules
 
@@ -59,10 +59,10 @@ loop-home-preserved c =
     let r = c.requires in
     let t = turn (goal.at.loop-home-preserved c).In-Some in
     let low : c.in-Some.field-0-1.now ≤ c.args.p = rw c.from.ensures at c.if-p-from.false in
-    let tried = rw (c.slot_of-slot.ensures, t.first, t.second, t.third) at c.put.ensures in
+    let tried = rw (c.of_byte-slot.ensures, t.first, t.second, t.third) at c.put.ensures in
     rw length_push
     (next-turn r.0 c.loop-home.invariant t.within r.1 (rw t.third at low) tried (sym c.in_ok-map_err.ensures.variant)
-    (counts-none _ _ c.is_none.ensures c.from-unplaced.ensures (c.slot_of-slot.ensures ∙ t.third)))
+    (counts-none _ _ c.is_none.ensures c.from-unplaced.ensures (c.of_byte-slot.ensures ∙ t.third)))
 
 pub returns : goal.returns
 returns c =

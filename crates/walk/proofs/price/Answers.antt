@@ -4,6 +4,3 @@ use Rattle.walk.proofs.price.Goals as goal
 
 pub penalty-requires : goal.penalty-requires
 penalty-requires c = rw c.fill.ensures (small c.args.check.now.checkable)
-
-pub returns : goal.returns
-returns c = (c.fill.ensures, rw (← c.fill.ensures) c.penalty.ensures)

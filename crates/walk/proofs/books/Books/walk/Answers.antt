@@ -82,6 +82,3 @@ returns-clause-reworked c =
     let v = c.loop-k.invariant in
     let end = rw (v.same, v.counted) at c.in-None.ensures.steps.0 in
     walked-done v.walked (end ∙ all c.args.self.now)
-
-pub returns-clause-same : goal.returns-clause-same
-returns-clause-same c = c.loop-k.invariant.books
