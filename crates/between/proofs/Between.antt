@@ -1,16 +1,14 @@
 -- Games between two groups are the games that each team hosts against the opponents counted for it. Assumes nothing.
 use Rattle.std.proofs.lemmas.Nat.Bits.{bit_at-zero}
 use mathlib.Core.Path.{◌≡◌, refl, sym, ap, ap₂, ◌∙◌}
-use mathlib.Core.List.{List, ◌∷◌, map-id}
+use mathlib.Core.List.{List, ◌∷◌}
 use mathlib.Core.Bool.{Bool, true, false, ◌&&◌, ◌||◌, and_assoc, and_comm}
-use Prim.Native.Nat.{ℕ, zero, suc, ◌+◌, ◌^◌, ◌<◌, ◌≤◌}
+use Prim.Native.Nat.{ℕ, ◌^◌, ◌<◌, ◌≤◌}
 use native.Mathlib.Omega.{arith}
 use native.Mathlib.Nat.{add-zero}
-use native.Mathlib.Numerals.{add-one}
 use lib.Bits.{or_lt}
 use lib.ListN.{length, get_or}
-use Rattle.std.specs.List.{sum_by, range_with_len}
-use Rattle.std.proofs.lemmas.List.FromFn.{sum_by-map-range_with_len_more}
+use Rattle.std.specs.List.{sum_by}
 use Rattle.std.proofs.lemmas.List.Recursion.{is_sum_by}
 use Rattle.robinx.specs.Season.{most_slots}
 use Rattle.robinx.specs.Sums.{sum_to, only}
@@ -81,17 +79,10 @@ hosted-le {n} {ts = ts} r S d T1 T2 i l =
           )),
     )
 
--- sums in std's words: of a list by its places, and of the numbers below n
+-- a sum of a list by its places, in std's words
 sum_to-places : (f : ℕ → ℕ) (l : List ℕ) → sum_to (λ i. f (get_or l i 0)) (length l) ≡ sum_by f l
 unfolding sum_to
 sum_to-places f = is_sum_by (λ l. sum_to (λ i. f (get_or l i 0)) (length l)) f refl (λ x l. sum-shift (λ i. f (get_or (x ∷ l) i 0)) (length l))
-
-pub sum_to-range : (f : ℕ → ℕ) (n : ℕ) → sum_to f n ≡ sum_by f (range_with_len 0 n)
-unfolding sum_to
-sum_to-range f zero = refl
-sum_to-range f (suc n) =
-    ap (λ (v : ℕ). v + f n) (sum_to-range f n)
-    ∙ sym (rw (add-one n, map-id, map-id) at (sum_by-map-range_with_len_more f (λ k. k) 0 n n (omega arith)))
 
 -- .. and per slot
 pub columns-between : (n : ℕ) (x : X) (d T1 T2 : ℕ) {words : List ℕ} → length words ≡ n → MasksOf (hosts n x d T1 T2) words n

@@ -25,9 +25,13 @@ packed f (suc n) = f 0 + packed (λ j. f (suc j)) n * 256
 unfoldable pub farthest_to : List ℕ → (ℕ → ℕ) → (ℕ → ℕ) → ℕ → ℕ
 farthest_to e f g n = max_to (λ k. min (get_or e k 0) (dist (f k) (g k))) n
 
--- how far the row's increases over w places are outside low .. high, summed over the first n places
+-- how far the row's increase over w places from k on is outside low .. high
+abbrev pub off_run : List ℕ → ℕ → ℕ → ℕ → ℕ → ℕ
+off_run row w low high k = outside low high (get_or row (k + w) 0 - get_or row k 0)
+
+-- .. summed over the first n places
 unfoldable pub runs_to : List ℕ → ℕ → ℕ → ℕ → ℕ → ℕ
-runs_to row w low high n = sum_to (λ k. outside low high (get_or row (k + w) 0 - get_or row k 0)) n
+runs_to row w low high n = sum_to (off_run row w low high) n
 
 -- how far the sums of f in the runs of w places are outside low .. high, summed over the first n runs
 abbrev pub off_in_runs : (ℕ → ℕ) → ℕ → ℕ → ℕ → ℕ → ℕ

@@ -3,7 +3,7 @@ use mathlib.Core.Path.{◌≡◌, refl}
 use mathlib.Core.Bool.{Bool, false, not, ◌&&◌}
 use Prim.Native.Nat.{ℕ, ◌+◌, ◌*◌, ◌/◌, ◌%◌, ◌^◌, ◌<◌}
 use native.Mathlib.Omega.{arith}
-use lib.Bits.{bit_and, and_le_r}
+use lib.Bits.{bit_and}
 use lib.Dec.{eqb, ltb}
 use borrow.Author.Rules.{rules}
 use borrow.Author.Tests.{eqb-true, ltb-true, not-false}
@@ -36,9 +36,6 @@ whole c =
     let b = c.args.byte in
     let r = and_parts _ _ (not-false _ (any_none (λ b. not (right b)) 256 none-wrong b (search rules))) in
     rw c.from.ensures (ltb-true (word b) (2 ^ 64) r.0, eqb-true (word b) (packed (up_to b) 8) r.1)
-
-pub overflow_add-one : goal.overflow_add-one
-overflow_add-one c = omega (arith, and_le_r (c.from.result * 0x0101010101010101) 0x8040201008040201)
 
 pub overflow_add-two : goal.overflow_add-two
 overflow_add-two c = omega (arith, (whole c).0)

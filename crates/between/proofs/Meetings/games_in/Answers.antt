@@ -8,12 +8,12 @@ use Rattle.std.proofs.lemmas.Iterator.{YieldsList-from_range, YieldsList-from_ma
 use Rattle.std.proofs.lemmas.Iterator.Consumers.{sum_by_from_yields_List, fits_by_from_yields_list}
 use Rattle.robinx.specs.Season.{most_slots, slots_of}
 use Rattle.robinx.specs.Deviations.{over}
-use Rattle.robinx.proofs.Sums.{sum_bound}
+use Rattle.robinx.proofs.Sums.{sum_bound, sum_to-range}
 use Rattle.tables.specs.Tables.{x_of}
 use Rattle.opponents.specs.Sides.{code_of}
 use Rattle.between.specs.Between.{hosts, of_meetings}
 use Rattle.between.specs.declared.Meetings.{Meetings}
-use Rattle.between.proofs.Between.{sum_to-range, hosted-over, hosted-le}
+use Rattle.between.proofs.Between.{hosted-over, hosted-le}
 use Rattle.between.proofs.Meetings.games_in.Goals as goal
 
 abbrev hosted : Meetings → ℕ → ℕ
