@@ -45,7 +45,7 @@ fn off_target(c: Constraint, v: u32) -> u32
 }
 
 // The deviations of BR1.
-#[tactic(auto, using(opponents::proofs::Checkable::check_rules), unfolding(robinx::specs::Kinds::form_of))]
+#[tactic(auto, using(opponents::proofs::Checkable::check_rules), unfolding(robinx::specs::Kinds::form_of, robinx::specs::Deviations::dev_br1))]
 pub fn fill_breaks(check: &Check, out: &mut [u32])
     requires { HasRoom check.now out.old × (kind_of check.now.constraint.kind ≡ Br1) }
     ensures { out.new ≡ of_check dev_br1 check.now }

@@ -34,6 +34,7 @@ pub fn season_open(
 
 // Gives a game a slot; slot 0 takes it out. The beginning of the three calls as one function was tried: the borrow checker does not cover a `Result`
 // of books; with an enum of its own, that a refusal leaves ledger and tally stays open (`follows` is proved of one field or a call's result alone).
+// With the rest as a closure, the contract of the beginning would have to say what that does to books, sheet and tables, which is all of it.
 pub fn season_set(
     season: &[u8],
     sheet: &mut [u8],

@@ -78,7 +78,7 @@ fn team_runs(check: &Check, t: usize) -> u32
 }
 
 // CA3: those against T2 in each run of w slots.
-#[tactic(auto, using(opponents::proofs::Checkable::check_rules), unfolding(robinx::specs::Kinds::form_of))]
+#[tactic(auto, using(opponents::proofs::Checkable::check_rules), unfolding(robinx::specs::Kinds::form_of, robinx::specs::Deviations::dev_ca3))]
 pub fn fill_ca3(check: &Check, out: &mut [u32])
     requires { HasRoom check.now out.old × (kind_of check.now.constraint.kind ≡ Ca3) }
     ensures { out.new ≡ of_check dev_ca3 check.now }

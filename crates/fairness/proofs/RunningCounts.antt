@@ -1,7 +1,7 @@
 -- Rows of running counts: what a table of them holds, and that their distances over S are the deviations. Assumes nothing.
 use mathlib.Core.Path.{◌≡◌, sym, ap, ◌∙◌}
 use mathlib.Core.List.{List, [], ◌∷◌}
-use mathlib.Core.Bool.{false, true≢false}
+use mathlib.Core.Bool.{false}
 use Prim.Native.Nat.{ℕ, suc, ◌+◌, ◌-◌, ◌^◌, ◌<◌, ◌≤◌}
 use native.Mathlib.Omega.{arith}
 use native.Mathlib.Decide.{ℕ_discrete}
@@ -16,8 +16,7 @@ use Rattle.robinx.proofs.Sums.{sum-add}
 use Rattle.robinx.proofs.Bounds.{games_up_to-le}
 use Rattle.robinx.proofs.Ext.{sum-ext, cat-ext}
 use Rattle.bits.specs.SetBits.{Lowest}
-use Rattle.bits.proofs.Lowest.{Part, whole, part-left, taken-below}
-use Rattle.bits.proofs.Figures.{bare}
+use Rattle.bits.proofs.Lowest.{Part, part-left, taken-below}
 use Rattle.tables.specs.Tables.{x_of}
 use Rattle.rows.specs.Rows.{Holds, marked, up_to}
 use Rattle.rows.proofs.Rows.{list-holds, farthest-ext, farthest-of, worst-less}
@@ -25,7 +24,7 @@ use Rattle.opponents.specs.Figures.{of_check}
 use Rattle.opponents.specs.Games.{MaskOf}
 use Rattle.opponents.specs.declared.check.Check.{Check}
 use Rattle.opponents.proofs.Checkable.{limits}
-use Rattle.fairness.specs.RunningCounts.{running, CountedAt, Counted, apart}
+use Rattle.fairness.specs.RunningCounts.{running, CountedAt, apart}
 
 -- a mask's running counts are those of the games it stands for
 pub running-of : (k : Check) (d t m : ℕ) → MaskOf (games_against k.sizes.teams (x_of k.tables.now.meets) d k.constraint.t1 t) m
@@ -53,9 +52,6 @@ pub record CountedPassed (k : Check) (d w : ℕ) (table : List (List ℕ)) : Typ
   pub rows : (t : ℕ) → has w t ≡ false → CountedAt k d table t
 
 module _ {k : Check} {d : ℕ} {table : List (List ℕ)} where
-  pub counted-start : length table ≡ most_teams → CountedPassed k d k.constraint.t1 table
-  counted-start p = record { part = whole k.constraint.t1; long = p; rows = λ t e b. absurd (true≢false (sym b ∙ e)) }
-
   module _ {w : ℕ} (a : CountedPassed k d w table) where
     pub counted-room : {t r : ℕ} → Lowest w t r → t < k.sizes.teams
     counted-room s = taken-below a.part s k.sizes.teams (limits k.checkable).t1
@@ -71,9 +67,6 @@ module _ {k : Check} {d : ℕ} {table : List (List ℕ)} where
         go : (i : ℕ) → has r i ≡ false → Dec (i ≡ t) → CountedAt k d (set table t row) i
         go i e (yes q) b = rw q (get_or-set_same table t row [] (omega (arith, counted-room s, k.checkable.teams, a.long)) ∙ p)
         go i e (no n) b = get_or-set_other table t i row [] n ∙ a.rows i (sym (s.others i n) ∙ e) b
-
-    pub counted-end : w ≡ 0 → Counted k d table k.sizes.teams
-    counted-end z = record { row = λ t l. a.rows t (rw z (bare t)) }
 
 -- The constraint's own deviations.
 module _ (k : Check) where

@@ -59,6 +59,7 @@ fn gather<F: Fn(usize) -> Slots>(group: u32, word: F) -> Slots
 }
 
 // The slots of the team's games of the sides, against the teams of the group. Of a side that is not asked for it gathers the games of no team.
+// It takes tables and a group and is no method of a check, which would ask more of callers.
 pub fn against(tables: &Tables, sides: Sides, group: u32, t: usize, n: usize) -> Slots
     requires { (t < n) × TiedGroup n group tables.now }
     ensures { MaskOf (games_against n (x_of tables.now.meets) (code_of sides) group t) result }

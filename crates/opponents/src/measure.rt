@@ -26,7 +26,7 @@ impl Sides {
         }
     }
 
-    // Home is one of the sides.
+    // Home is one of the sides. It and `asks_away` are a line each: one function for both would want a type of two sides.
     pub fn asks_home(self) -> bool
         ensures { result ≡ has (code_of self) 0 }
     {

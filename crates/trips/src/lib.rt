@@ -73,7 +73,7 @@ fn missing_trips(check: &Check, t: usize) -> u32
 }
 
 // The deviations of CA5.
-#[tactic(auto, using(opponents::proofs::Checkable::member_below))]
+#[tactic(auto, using(opponents::proofs::Checkable::check_rules), unfolding(robinx::specs::Kinds::form_of, robinx::specs::Deviations::dev_ca5))]
 pub fn fill_ca5(check: &Check, out: &mut [u32])
     requires { HasRoom check.now out.old × (kind_of check.now.constraint.kind ≡ Ca5) }
     ensures { out.new ≡ of_check dev_ca5 check.now }
@@ -82,7 +82,7 @@ pub fn fill_ca5(check: &Check, out: &mut [u32])
 }
 
 // The deviations of BR4.
-#[tactic(auto, using(opponents::proofs::Checkable::member_below))]
+#[tactic(auto, using(opponents::proofs::Checkable::check_rules), unfolding(robinx::specs::Kinds::form_of, robinx::specs::Deviations::dev_br4))]
 pub fn fill_br4(check: &Check, out: &mut [u32])
     requires { HasRoom check.now out.old × (kind_of check.now.constraint.kind ≡ Br4) }
     ensures { out.new ≡ of_check dev_br4 check.now }

@@ -1,6 +1,5 @@
 -- The games against the group of all teams are all games. Assumes nothing.
 use mathlib.Core.Path.{ap, ◌∙◌}
-use lib.Pow.{ones_lt}
 use Rattle.robinx.specs.Season.{slots_of}
 use Rattle.robinx.specs.Timetable.{side}
 use Rattle.robinx.specs.Deviations.{outside, dev_ca1}
@@ -8,9 +7,6 @@ use Rattle.robinx.proofs.Ext.{over-ext, each-ext}
 use Rattle.tables.specs.Tables.{x_of}
 use Rattle.opponents.proofs.Games.{against-all}
 use Rattle.counts.proofs.fill_ca1.Goals as goal
-
-pub fill_counts-requires-clause-rivals : goal.fill_counts-requires-clause-rivals
-fill_counts-requires-clause-rivals c = rw c.everyone.ensures (ones_lt c.args.check.now.sizes.teams)
 
 pub returns : goal.returns
 unfolding dev_ca1

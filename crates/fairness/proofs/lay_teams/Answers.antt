@@ -1,10 +1,7 @@
 -- Before each turn the rows of the members passed are laid. Assumes nothing.
-use Rattle.std.proofs.Common.{arith, rules}
-use Rattle.fairness.proofs.RunningCounts.{counted-start, counted-room, counted-turn, counted-end}
+use Rattle.std.proofs.Common.{arith}
+use Rattle.fairness.proofs.RunningCounts.{counted-room, counted-turn}
 use Rattle.fairness.proofs.lay_teams.Goals as goal
-
-pub loop-t-init : goal.loop-t-init
-loop-t-init c = rw (c.into_iter-t-iterator.ensures.into_iter_gives, c.members-t-items.ensures) (counted-start (search rules))
 
 pub lay_games-requires : goal.lay_games-requires
 lay_games-requires c = counted-room c.loop-t.invariant c.in-Some.ensures.steps
@@ -14,6 +11,3 @@ bounds-rows-t c = omega (arith, counted-room c.loop-t.invariant c.in-Some.ensure
 
 pub loop-t-preserved : goal.loop-t-preserved
 loop-t-preserved c = counted-turn c.loop-t.invariant c.in-Some.ensures.steps c.lay_games.ensures
-
-pub returns : goal.returns
-returns c = counted-end c.loop-t.invariant c.in-None.ensures.steps.0
