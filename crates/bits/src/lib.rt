@@ -35,7 +35,7 @@ impl Iterator for SetBits {
         if self.rest == 0 {
             return None;
         }
-        // a cast, since usize has no From<u32>
+        // a cast: usize has no From<u32>, and try_from would want an unwrap
         let k = self.rest.trailing_zeros() as usize;
         self.rest &= self.rest - 1;
         Some(k)

@@ -1,6 +1,7 @@
 // Groups of teams: bit t of a u32 is team t, and the rules of T1 and T2 read the number as it is. `is_in`, `one`, `everyone`, `size_of` and `members`
-// are no twins of functions of `masks`: what is done with the word of a mask is done there alone, since it may become several. That a team is below
-// the most that there may be is the bound of an index, and a clause in each function here and above.
+// are no twins of functions of `masks`: what is done with the word of a mask is done there, and the walk over its bits in `bits`, since it may become
+// several. That a team is below the most that there may be is the bound of an index, and a clause in each function here and above: a type for it would
+// be made from the same proof at each call.
 
 #![tactic(auto)]
 
@@ -44,7 +45,7 @@ pub fn everyone(n: usize) -> u32
 pub fn size_of(group: u32) -> usize
     ensures { (result ≡ ones group) × (result ≤ most_teams) }
 {
-    // a cast, since usize has no From<u32>
+    // a cast: usize has no From<u32>, and try_from would want an unwrap
     group.count_ones() as usize
 }
 

@@ -61,6 +61,7 @@ pub fn is_among(s: Slots, p: usize) -> bool
 pub fn size(s: Slots) -> usize
     ensures { (result ≡ count_ones s) × (result ≤ most_slots) }
 {
+    // a cast: usize has no From<u32>, and try_from would want an unwrap
     s.count_ones() as usize
 }
 
@@ -182,6 +183,6 @@ pub fn closeness(v: Slots, w: u8) -> u32
         c += far.saturating_sub(k);
         far = k + gap;
     }
-    // a cast, since u32 has no From<usize>
+    // a cast: u32 has no From<usize>, and try_from would want an unwrap
     c as u32
 }

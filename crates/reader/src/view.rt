@@ -23,7 +23,7 @@ impl<'a> SeasonView<'a> {
         &self.bytes[6..end]
     }
 
-    // The away team of each game.
+    // The away team of each game. It and `homes` are two parts of the bytes and have two definitions: one function would get the first byte.
     #[tactic(auto, using(crate::proofs::Read::sizes_read), unfolding(robinx::specs::Season::away_teams, robinx::specs::Season::decode))]
     pub fn aways(self) -> &'a [u8]
         ensures { result.now ≡ away_teams self.entry.bytes.now }

@@ -1,4 +1,4 @@
-// A season opened and then a list of calls made, through the exported calls alone: the last answer, and the changes added up.
+// A season opened and then a list of calls made, through those of `checker` alone: the last answer, and the changes added up.
 
 #![tactic(auto)]
 
@@ -52,8 +52,8 @@ impl Call {
     }
 }
 
-// Opens, and makes each call of the list, three words a call, whatever the answers are. The buffers come one by one, as C lends them
-// to the exported calls: the list is played through those calls alone.
+// Opens, and makes each call of the list, three words a call, whatever the answers are. The buffers come one by one, as the
+// calls of `checker` take them: a struct would be made here and taken apart there.
 pub fn play(
     season: &[u8],
     sheet: &mut [u8],

@@ -1,6 +1,7 @@
 // Replays season A: reads its 114 bytes, its sheet (both as in examples/season-a.bin) and then calls of three words each, eight bytes a
 // word, lowest first (examples/season-a.moves; 0 for set, 1 for exchange). For the opening alone, for the first call, the first two and
 // so on it opens anew, makes these calls, and prints the last answer, each sum with the last change, the sheet and the tally.
+// A line is printed by a function: a type with `Display` would be made for it alone.
 
 #![tactic(auto)]
 

@@ -54,13 +54,13 @@ impl fmt::Display for Report {
     }
 }
 
-// The broken constraints by the penalties of a tally.
+// The broken constraints by the penalties of a tally. It reads that alone, so it takes no books.
 fn find_broken(season: SeasonView, tally: &[u64]) -> BrokenList
     requires { (season.sizes.constraints ≤ length tally.now) × (season.sizes.constraints ≤ most_constraints) }
     ensures { (sheet : List ℕ) → TallyOf season.entry.bytes.now sheet tally.now
         → map broken_row result.items ≡ broken_of season.entry.bytes.now sheet season.entry.sizes.constraints }
 {
-    // a `for` that pushes: `collect` and `extend` answer for a heap that may be full
+    // a `for` that pushes: `collect` and `extend` answer a `Result`, for a vector that is full
     let mut broken = BrokenList::new();
     let penalties = &tally[..season.sizes.constraints];
     for (number, &penalty) in penalties.iter().enumerate() {

@@ -1,5 +1,6 @@
 // Reads a list of inputs on standard input, each one as two bytes of length, lowest first, and its bytes, and prints
 // the report of each one as `season-report` would.
+// A line is printed by a function: a type with `Display` would be made for it alone.
 
 #![tactic(auto)]
 

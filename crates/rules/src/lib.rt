@@ -26,7 +26,7 @@ fn asked(f: Field, kmax: u8, v: u32) -> bool
     }
 }
 
-// What the field of a row asks of S. It is a function of its own, since only the crate masks knows that a mask is a number.
+// What the field of a row asks of S. It is a function of its own, since what is done with the word of a mask is done in `masks`.
 fn slots_ask(f: Field, kmax: u8, s: Slots) -> bool
     ensures { result ≡ asked f kmax s }
 {
