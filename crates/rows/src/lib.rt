@@ -79,7 +79,7 @@ pub fn runs(row: &[u8], w: usize, range: CountRange, n: usize) -> u32
     requires whole { n ≤ most_slots + 1 - w }
     ensures { result ≡ runs_to row.now w range.low range.high n }
 {
-    // by place: a zip of the row and its part from w on takes a fifth more instructions
+    // by place: in a loop, a zip of the row and its part from w on took a fifth more instructions than places
     (0..n).map(|k| off_run(row, w, range, k)).sum()
 }
 
