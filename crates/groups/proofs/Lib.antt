@@ -1,3 +1,4 @@
 pub mod Pairs
 pub mod Figures
 pub mod FigureWalk
+pub mod Above

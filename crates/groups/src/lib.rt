@@ -5,7 +5,7 @@
 
 #![tactic(auto)]
 
-ghost use Rattle.std.specs.Prelude.{◌≡◌, ◌-◌, ◌<◌, ◌≤◌, ◌^◌};
+ghost use Rattle.std.specs.Prelude.{◌≡◌, ◌&&◌, ℕ, ◌-◌, ◌<◌, ◌≤◌, ◌^◌, ltb};
 ghost use Rattle.std.specs.Int.Count.{ones};
 ghost use Rattle.robinx.specs.Season.{most_teams};
 ghost use Rattle.robinx.specs.Groups.{has};
@@ -63,4 +63,14 @@ pub fn members(group: u32) -> SetBits
     ensures { result.rest ≡ group }
 {
     SetBits::of(u64::from(group))
+}
+
+// The walk over the members higher than i, which may be a member or not. The word of a walk is wider than a group, so i may be the last team.
+#[tactic(auto, using(crate::proofs::Above::kept_above))]
+pub fn members_above(group: u32, i: usize) -> SetBits
+    requires { i < most_teams }
+    ensures { (t : ℕ) → has result.rest t ≡ (ltb i t && has group t) }
+{
+    let first = i + 1;
+    SetBits::of((members(group).rest >> first) << first)
 }
