@@ -95,6 +95,13 @@ pub fn bytes(s: Slots) -> [u8; Season::SLOTS / 8]
     s.to_le_bytes()
 }
 
+// The mask from its ninth slot on, moved down to the first.
+pub fn past_eight(s: Slots) -> Slots
+    ensures { result ≡ s / 2 ^ 8 }
+{
+    s >> 8
+}
+
 // The mask of one slot.
 pub fn slot(k: usize) -> Slots
     requires { k < most_slots }
