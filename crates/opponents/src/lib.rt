@@ -18,8 +18,8 @@ ghost use Rattle.opponents.specs.Games.{MaskOf, of_sides, GathersUnion};
 use groups::members;
 use masks::pattern::Pattern;
 use masks::union;
-use measure::Sides;
-use robinx::Slots;
+use measure::{Sides, asks_away, asks_home};
+use robinx::{Season, Slots};
 use tables::Tables;
 
 // The team's home-away pattern, of the sides that are asked for: of the other side no slots.
@@ -43,6 +43,29 @@ pub fn played(tables: &Tables, sides: Sides, t: usize) -> Slots
 {
     let asked = asked(tables, sides, t);
     union(asked.home, asked.away)
+}
+
+// The same of home and away words alone, tied to no other table, and of any number as sides.
+pub fn played_on(
+    home: &[Slots; Season::TEAMS],
+    away: &[Slots; Season::TEAMS],
+    sides: u8,
+    t: usize,
+) -> Slots
+    requires { t < most_teams }
+    ensures { result ≡ of_sides sides (get_or home.now t 0) (get_or away.now t 0) }
+{
+    let hosted = if asks_home(sides) {
+        home[t]
+    } else {
+        masks::NONE
+    };
+    let visited = if asks_away(sides) {
+        away[t]
+    } else {
+        masks::NONE
+    };
+    union(hosted, visited)
 }
 
 // The union of the words of the group's members.

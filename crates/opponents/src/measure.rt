@@ -40,3 +40,17 @@ impl Sides {
         self != Sides::Home
     }
 }
+
+// Home is one of the sides of a number, which may be no mode's.
+pub fn asks_home(sides: u8) -> bool
+    ensures { result ≡ has sides 0 }
+{
+    sides % 2 == 1
+}
+
+// Away is one of them.
+pub fn asks_away(sides: u8) -> bool
+    ensures { result ≡ has sides 1 }
+{
+    (sides >> 1) % 2 == 1
+}
