@@ -2,10 +2,13 @@
 
 #![tactic(auto)]
 
+pub mod numbers;
+
 ghost use Rattle.std.specs.Prelude.{◌≡◌};
 ghost use Rattle.replies.specs.Verdict.{verdict_number, verdict_of};
 ghost use Rattle.replies.specs.Reply.{reply_of};
 
+use numbers::{accepted, declined};
 use robinx::{Refusal, Reply};
 use totals::Totals;
 
@@ -52,17 +55,7 @@ pub fn reply(answer: Result<Accepted, Refusal>) -> Reply
     ensures { result ≡ reply_of answer }
 {
     match answer {
-        Ok(Accepted { verdict, change }) => Reply {
-            declined: false,
-            number: u8::from(verdict),
-            infeasibility: change.hard.cast_signed(),
-            objective: change.soft.cast_signed(),
-        },
-        Err(refusal) => Reply {
-            declined: true,
-            number: u8::from(refusal),
-            infeasibility: 0,
-            objective: 0,
-        },
+        Ok(Accepted { verdict, change }) => accepted(u8::from(verdict), change),
+        Err(refusal) => declined(u8::from(refusal)),
     }
 }
