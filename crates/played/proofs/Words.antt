@@ -1,6 +1,6 @@
 -- Integers modulo 2^64.
 use Rattle.std.proofs.Common.{◌≡◌, ℕ, suc, ◌+◌, ◌-◌, ◌%◌, ◌^◌, ◌<◌, Bool, true, false, cond, ltb, ℤ, pos, negsuc, ◌+ℤ◌}
-use Rattle.std.proofs.Common.{refl, arith, w64, to_z, ltb-false, ltb-true}
+use Rattle.std.proofs.Common.{refl, arith, w64, SFits, to_z, of_z, ltb-false, ltb-true}
 use lib.IntN.{sub_ℕ}
 use Rattle.played.specs.Word.{word}
 
@@ -35,3 +35,9 @@ word_signed n h = go (ltb n (2 ^ 63)) refl
     go : (t : Bool) → ltb n (2 ^ 63) ≡ t → word (to_z w64 n) ≡ n
     go true e = rw e (omega arith)
     go false e = let low = ltb-false n (2 ^ 63) e in rw e (omega arith)
+
+-- the bits of an integer that fits are the integer modulo 2^64
+pub word_unsigned : (z : ℤ) → SFits w64 z → of_z w64 z ≡ word z
+unfolding word
+word_unsigned (pos n) f = let h = f.sfits in omega arith
+word_unsigned (negsuc n) f = let h = f.sfits in omega arith

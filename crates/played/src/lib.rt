@@ -2,8 +2,11 @@
 
 #![tactic(auto)]
 
+pub mod reply_list; // reply_list.rt: the same of any replies, whether a call answers them or not
+
 ghost use Rattle.std.specs.Prelude.{◌≡◌};
 ghost use Rattle.replies.specs.Reply.{reply_of};
+ghost use Rattle.played.specs.Word.{word};
 ghost use Rattle.played.specs.AnswerList.{reply_changes, begun, with_answer};
 
 use replies::Accepted;
@@ -15,6 +18,14 @@ use totals::Totals;
 pub struct Played {
     pub answer: Result<Accepted, Refusal>,
     pub sums: Totals,
+}
+
+// A change modulo 2^64.
+#[tactic(auto, using(crate::proofs::Words::word_unsigned))]
+pub fn word(change: i64) -> u64
+    ensures { result ≡ word change }
+{
+    change.cast_unsigned()
 }
 
 // The changes in an answer: none where the call was refused.
