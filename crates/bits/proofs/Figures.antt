@@ -17,7 +17,7 @@ use Rattle.bits.proofs.Lowest.{not-up-to}
 
 -- Figures that differ at a alone, where the second has none.
 module _ {f g : ℕ → ℕ} (a : ℕ) (same : (k : ℕ) → (k ≡ a → ⊥) → g k ≡ f k) (none : g a ≡ 0) where
-  sum-but-one : (n : ℕ) → a < n → sum_to f n ≡ f a + sum_to g n
+  pub sum-but-one : (n : ℕ) → a < n → sum_to f n ≡ f a + sum_to g n
   unfolding sum_to
   sum-but-one zero l = absurd (omega arith)
   sum-but-one (suc n) l = go (ℕ_discrete n a) (sum-but-one n)

@@ -10,6 +10,7 @@ use Rattle.robinx.specs.Sums.{only}
 use Rattle.robinx.specs.Groups.{bit, has}
 use Rattle.robinx.specs.Timetable.{last_was}
 use Rattle.robinx.proofs.Sums.{only-le}
+use Rattle.robinx.proofs.Ext.{last_was-ext}
 use Rattle.masks.specs.Masks.{Within, is_break}
 use Rattle.robinx.proofs.Bits.{at_bits, mod-bit}
 
@@ -65,3 +66,10 @@ module _ (w : Width) (side all : ℕ) (h : all < 2 ^ bits w) (part : Within side
 -- a mask is within its union with another
 pub within-left : (m n : ℕ) → Within m (bit_or m n)
 within-left m n k = omega (arith, bit_at_or m n k)
+
+-- breaks of masks that are the tests of slots in question
+pub break-is : (side all k : ℕ) {game on_side : ℕ → Bool}
+    → ((a : ℕ) → a < suc k → has all a ≡ game a)
+    → ((a : ℕ) → a < suc k → has side a ≡ on_side a)
+    → is_break side all k ≡ on_side k && last_was game on_side k
+break-is side all k g s = ap₂ ◌&&◌ (s k (omega arith)) (last_was-ext k (λ a l. g a (omega arith)) (λ a l. s a (omega arith)))

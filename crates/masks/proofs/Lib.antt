@@ -6,3 +6,4 @@ pub mod GapWalk
 pub mod Borrow
 pub mod Ends
 pub mod TripStarts
+pub mod OneFewer

@@ -5,6 +5,7 @@ use Rattle.std.specs.Int.{Width, bit_not}
 use Rattle.std.proofs.lemmas.Nat.Bits.{bit_at_not, same_from_bits_below, bit_at_and, bit_at_or, bit_at_xor}
 use mir.Val.{bits}
 use lib.Bits.{bit_and, bit_or, bit_xor, and_le_l, or_lt, xor_lt}
+use lib.Pow.{pow-lt}
 use borrow.Author.Tests.{eqb-false}
 use Rattle.robinx.specs.Sums.{only}
 use Rattle.robinx.specs.Groups.{bit}
@@ -31,14 +32,14 @@ module _ (m k : ℕ) where
   joined-here : bit (joined m k) k ≡ 1
   joined-here = joined-max k ∙ rw (eq-eqb k k refl) (omega arith)
 
-  without-here : bit (without m k) k ≡ 0
+  pub without-here : bit (without m k) k ≡ 0
   without-here = without-differ k ∙ rw (eq-eqb k k refl) (at_bits (λ x y. (max x 1 + 1) % 2 ≡ 0) refl refl refl refl m m k)
 
   -- at any other
   joined-there : (a : ℕ) → (a ≡ k → ⊥) → bit (joined m k) a ≡ bit m a
   joined-there a n = joined-max a ∙ rw (ne_eqb a k n) (omega arith)
 
-  without-there : (a : ℕ) → (a ≡ k → ⊥) → bit (without m k) a ≡ bit m a
+  pub without-there : (a : ℕ) → (a ≡ k → ⊥) → bit (without m k) a ≡ bit m a
   without-there a n = without-differ a ∙ rw (ne_eqb a k n) (at_bits (λ x y. (max x 0 + 0) % 2 ≡ x) refl refl refl refl m m a)
 
   -- a slot that was not in it adds one there, a slot that was takes one away
@@ -55,3 +56,10 @@ module _ (m k : ℕ) where
       go : (t : Bool) → eqb a k ≡ t → bit (without m k) a + only t 1 ≡ bit m a
       go true e = rw (eqb-true a k e) (omega (arith, without-here, busy))
       go false e = omega (arith, without-there a (eqb-false a k e))
+
+  -- no wider than the mask and the slot, at any width
+  pub joined-lt : (K : ℕ) → m < 2 ^ K → k < K → joined m k < 2 ^ K
+  joined-lt K h l = or_lt K m (2 ^ k) h (pow-lt l)
+
+  pub without-lt : (K : ℕ) → m < 2 ^ K → k < K → without m k < 2 ^ K
+  without-lt K h l = xor_lt K (joined m k) (2 ^ k) (joined-lt K h l) (pow-lt l)
