@@ -7,7 +7,7 @@ use Prim.Native.Nat.{ℕ, zero, suc, ◌+◌, ◌*◌, ◌-◌, ◌^◌, ◌<◌
 use native.Mathlib.Omega.{arith}
 use native.Mathlib.Nat.{mul-le-mul_right, mul-le-mul_left, mul-le-mul, le_trans, le_of_eq}
 use lib.Dec.{eqb, ltb}
-use lib.ListN.{get_or}
+use lib.ListN.{length, get_or}
 use Rattle.std.proofs.lemmas.Bool.{cond_both}
 use Rattle.robinx.specs.Sums.{sum_to, cat_to, only, only_l}
 use Rattle.robinx.specs.Season.{slots_of, most_teams, most_slots, most_byte}
@@ -38,6 +38,12 @@ unfolding sum
 element-le [] i = omega arith
 element-le (a ∷ l) zero = omega arith
 element-le (a ∷ l) (suc i) = omega (arith, element-le l i)
+
+-- a list whose numbers are at most B
+pub sum-length-le : (B : ℕ) (l : List ℕ) → ((i : ℕ) → i < length l → get_or l i 0 ≤ B) → sum l ≤ length l * B
+unfolding sum
+sum-length-le B [] h = omega arith
+sum-length-le B (a ∷ l) h = omega (arith, h 0 (omega arith), sum-length-le B l (λ i k. h (suc i) (omega arith)))
 
 self-le : (s : ℕ) → s ≤ s * s
 self-le zero = omega arith

@@ -11,7 +11,7 @@ use Rattle.std.proofs.lemmas.Nat.Bits.{bit_at_lowest, bit_at-suc}
 use Rattle.robinx.specs.Sums.{sum_to, only}
 use Rattle.robinx.specs.Groups.{bit, has, size, is_pair, pairs}
 use Rattle.robinx.proofs.Ext.{sum-ext}
-use Rattle.robinx.proofs.Sums.{sum_step, sum-shift, sum-zero, sum-add, sum_bound, only-le}
+use Rattle.robinx.proofs.Sums.{sum_step, sum-shift, sum-zero, sum-add, sum_bound, sum_mono, only-le}
 
 pub only-bit : (T k : ℕ) → only (has T k) 1 ≡ bit T k
 only-bit T k = go (has T k) refl
@@ -46,6 +46,14 @@ module _ (T : ℕ) where
   pub size-le : (n : ℕ) → size n T ≤ n
   unfolding size
   size-le n = omega (arith, sum_bound n 1 (λ k l. only-le (has T k) 1))
+
+  pub size_mono : (k n : ℕ) → k ≤ n → size k T ≤ size n T
+  unfolding size
+  size_mono = sum_mono (λ t. only (has T t) 1)
+
+  -- a member below n has a place of its own among the n
+  pub size-lt : (k n : ℕ) → k < n → has T k ≡ true → size k T < size n T
+  size-lt k n l h = omega (arith, size_mono (k + 1) n (omega arith), rw h at (size_step k))
 
   -- the pairs that member n makes with those below it
   lower : (n : ℕ) (b : Bool) → has T n ≡ b → sum_to (λ i. only (is_pair T i n) 1) n ≡ only b (size n T)
