@@ -2,15 +2,16 @@
 use mathlib.Core.Path.{◌≡◌, refl, sym, ap, ap₂, ◌∙◌}
 use mathlib.Core.List.{List, [], ◌∷◌, ◌++◌}
 use mathlib.Core.Bool.{Bool, true, false, ◌&&◌, ◌||◌, not, or_assoc, or-false, and_assoc}
-use Prim.Native.Nat.{ℕ, zero, suc, ◌≤◌}
+use Prim.Native.Nat.{ℕ, zero, suc, ◌<◌, ◌≤◌}
 use native.Mathlib.Omega.{arith}
 use lib.Dec.{eqb}
 use lib.ListN.{length, get_or, take, drop, length-append, length-drop, length-take}
 use Rattle.robinx.specs.Sums.{any_to, list_to}
 use Rattle.robinx.specs.Season.{most_teams}
-use Rattle.robinx.specs.Summary.{summary_words}
+use Rattle.robinx.specs.Summary.{summary_words, team_words}
 use Rattle.robinx.specs.Refusals.{sentence14_open, disagrees}
 use Rattle.robinx.proofs.Consequences.{words}
+use Rattle.robinx.proofs.Ext.{cat-ext}
 use Rattle.robinx.proofs.Summary.{length-words}
 use Rattle.tables.specs.declared.Patterns.{Patterns}
 use Rattle.std.specs.Cmp.Lexicographic.{pointwise}
@@ -24,6 +25,12 @@ words-joined p h a = sym (ap₂ ◌++◌ (each p.home h) (each p.away a))
   where
     each : (l : List ℕ) → length l ≡ most_teams → list_to (λ t. get_or l t 0) most_teams ≡ l
     each l e = words l most_teams (omega arith) ∙ take_all most_teams l (omega arith)
+
+-- equal words of each team make equal words of all
+pub same-words : {home away home' away' : ℕ → ℕ} → ((t : ℕ) → t < most_teams → home t ≡ home' t) → ((t : ℕ) → t < most_teams → away t ≡ away' t)
+    → team_words home away ≡ team_words home' away'
+same-words at_home at-away =
+    ap₂ ◌++◌ (cat-ext most_teams (λ t l. ap (λ (v : ℕ). v ∷ []) (at_home t l))) (cat-ext most_teams (λ t l. ap (λ (v : ℕ). v ∷ []) (at-away t l)))
 
 -- one half laid over the first words, then the other over the rest
 pub halves_are_the_words : (p : Patterns) (l : List ℕ) → length l ≡ summary_words → length p.home ≡ most_teams → length p.away ≡ most_teams
