@@ -4,10 +4,11 @@ use mathlib.Core.Bool.{Bool, true, false}
 use mathlib.Core.List.{List, [], ◌∷◌, ◌++◌, append_assoc, append-nil}
 use Prim.Native.Nat.{ℕ, zero, suc, ◌+◌, ◌-◌, ◌*◌, ◌^◌, ◌<◌, ◌≤◌, min, max}
 use native.Mathlib.Omega.{arith}
+use native.Mathlib.Decide.{ℕ_discrete}
 use native.Mathlib.Nat.{add-zero, zero-add, add-suc}
 use lib.Dec.{eqb}
-use lib.ListN.{get_or, length, length-append}
-use lib.Seq.{ext_get_or}
+use lib.ListN.{get_or, set, length, length-append, length-set}
+use lib.Seq.{ext_get_or, get_or-set_same, get_or-set_other}
 use denote.Param.Members.{Mut, Called}
 use Rattle.std.specs.Array.{IsFromFnResultFrom, IsFromFnResult}
 use Rattle.std.specs.List.{fold, zip}
@@ -19,7 +20,7 @@ use Rattle.robinx.specs.Deviations.{worst, outside, in_run}
 use Rattle.robinx.proofs.Sums.{sum-split}
 use Rattle.robinx.proofs.Ext.{sum-ext, max-ext}
 use Rattle.robinx.proofs.Lengths.{list_at}
-use Rattle.rows.specs.Rows.{Holds, marked, up_to, farthest_to, runs_to, off_in_runs}
+use Rattle.rows.specs.Rows.{Holds, marked, row_at, HoldsAt, laid_at, up_to, farthest_to, runs_to, off_in_runs}
 use Rattle.robinx.proofs.Bits.{at_bits}
 use Rattle.masks.proofs.Width.{worst-stop}
 
@@ -31,6 +32,22 @@ length-list : (f : ℕ → ℕ) (n : ℕ) → length (list_to f n) ≡ n
 unfolding cat_to
 length-list f zero = refl
 length-list f (suc n) = omega (arith, length-append (list_to f n) (f n ∷ []), length-list f n)
+
+-- what a stretch of an array of any length holds where it was written
+module _ (rows : List ℕ) (a : ℕ) (f : ℕ → ℕ) where
+  laid_at-length : (k : ℕ) → length (laid_at rows a f k) ≡ length rows
+  unfolding laid_at
+  laid_at-length zero = refl
+  laid_at-length (suc k) = simp length-set (laid_at-length k)
+
+  pub laid_at-holds : (n : ℕ) → a + n ≤ length rows → HoldsAt (laid_at rows a f n) a f n
+  unfolding laid_at
+  laid_at-holds zero l k lk = absurd (omega arith)
+  laid_at-holds (suc n) l k lk = go (ℕ_discrete k n) (laid_at-holds n (omega arith) k)
+    where
+      go : Dec (k ≡ n) → (k < n → row_at (laid_at rows a f n) a k ≡ f k) → row_at (set (laid_at rows a f n) (a + n) (f n)) a k ≡ f k
+      go (yes e) ih = rw e (get_or-set_same (laid_at rows a f n) (a + n) (f n) 0 (omega (arith, laid_at-length n)))
+      go (no e) ih = get_or-set_other (laid_at rows a f n) (a + n) (a + k) (f n) 0 (λ p. e (omega arith)) ∙ ih (omega (arith, e))
 
 -- what `from_fn` makes of a closure that stays as it is and gives h of each number
 module _ {F : Type 0} (g : Mut F (ℕ × Unit {0}) ℕ) (f : F) (h : ℕ → ℕ)

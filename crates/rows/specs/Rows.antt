@@ -1,5 +1,5 @@
 -- Rows of bytes, a place for each slot, and what is read off them.
-use Rattle.std.specs.Prelude.{List, ◌≡◌, ℕ, zero, suc, ◌+◌, ◌-◌, ◌*◌, ◌<◌, min, get_or}
+use Rattle.std.specs.Prelude.{List, ◌≡◌, ℕ, zero, suc, ◌+◌, ◌-◌, ◌*◌, ◌<◌, min, get_or, set}
 use Rattle.robinx.specs.Sums.{sum_to, max_to, dist}
 use Rattle.robinx.specs.Groups.{bit}
 use Rattle.robinx.specs.Deviations.{outside, in_run}
@@ -11,6 +11,17 @@ Holds row f n = (k : ℕ) → k < n → get_or row k 0 ≡ f k
 -- 255 for a slot of the mask, else 0
 abbrev pub marked : ℕ → ℕ → ℕ
 marked s k = bit s k * 255
+
+-- A stretch of an array of any length: the numbers from place a on, that they are those of f, and the array with f written there
+abbrev pub row_at : List ℕ → ℕ → ℕ → ℕ
+row_at rows a k = get_or rows (a + k) 0
+
+abbrev pub HoldsAt : List ℕ → ℕ → (ℕ → ℕ) → ℕ → Type 0
+HoldsAt rows a f n = (k : ℕ) → k < n → row_at rows a k ≡ f k
+
+unfoldable pub laid_at : List ℕ → ℕ → (ℕ → ℕ) → ℕ → List ℕ
+laid_at rows a f zero = rows
+laid_at rows a f (suc k) = set (laid_at rows a f k) (a + k) (f k)
 
 -- how many of the slots up to k the mask has
 abbrev pub up_to : ℕ → ℕ → ℕ
