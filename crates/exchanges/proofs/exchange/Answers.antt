@@ -3,7 +3,7 @@ use native.Mathlib.Omega.{arith}
 use borrow.Author.Rules.{rules}
 use Rattle.walk.specs.Reworked.{lent}
 use Rattle.reader.proofs.Read.{games-read}
-use Rattle.calls.proofs.CallNumbers.{exchange-refused, exchange-passes}
+use Rattle.calls.proofs.CallNumbers.{exchange-refused-by, exchange-passes}
 use Rattle.calls.proofs.Accept.{as-many-slots}
 use Rattle.exchanges.proofs.exchange.Goals as goal
 
@@ -21,4 +21,4 @@ pub returns-in_err-g-clause-outcome : goal.returns-in_err-g-clause-outcome
 returns-in_err-g-clause-outcome c =
     let a = c.args in
     let sizes = a.books.now.season.measured.sizes in
-    let refused = exchange-refused _ sizes (lent a.sheet.now a.books.now) a.game a.other c.in_err-g.field-0.0 c.in_err-g.ensures.0 in search rules
+    let refused = exchange-refused-by _ sizes (lent a.sheet.now a.books.now) a.game a.other c.in_err-g.field-0.0 c.in_err-g.ensures.0 in search rules

@@ -4,7 +4,7 @@ use Prim.Native.Nat.{◌<◌, ◌≤◌}
 use native.Mathlib.Omega.{arith}
 use borrow.Author.Rules.{rules}
 use Rattle.walk.specs.Reworked.{instance_of, lent}
-use Rattle.calls.proofs.CallNumbers.{set-refused, set-passes}
+use Rattle.calls.proofs.CallNumbers.{set-refused-by, set-passes}
 use Rattle.calls.proofs.Accept.{few-slots}
 use Rattle.sets.proofs.set.Goals as goal
 use Rattle.sets.proofs.set.Goals.{After-try_from, After-unwrap-b}
@@ -35,4 +35,4 @@ pub returns-in_err-g-clause-outcome : goal.returns-in_err-g-clause-outcome
 returns-in_err-g-clause-outcome c =
     let a = c.args in
     let sizes = a.books.now.season.measured.sizes in
-    let refused = set-refused _ sizes (lent a.sheet.now a.books.now) a.game a.slot c.in_err-g.field-0.0 c.in_err-g.ensures.0 in search rules
+    let refused = set-refused-by _ sizes (lent a.sheet.now a.books.now) a.game a.slot c.in_err-g.field-0.0 c.in_err-g.ensures.0 in search rules
