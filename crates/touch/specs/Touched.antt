@@ -1,5 +1,5 @@
 -- What touches a constraint, by the row of its kind and a move.
-use Rattle.std.specs.Prelude.{◌≡◌, Bool, true, false, ◌&&◌, ◌||◌, not, ℕ, eqb, Option, None, Some, IfSome}
+use Rattle.std.specs.Prelude.{◌≡◌, Bool, true, false, ◌&&◌, ◌||◌, not, ℕ, zero, suc, eqb, Option, None, Some, IfSome}
 use Rattle.robinx.specs.Season.{slots_of}
 use Rattle.robinx.specs.Groups.{has}
 use Rattle.robinx.specs.Sheet.{byte_of}
@@ -28,6 +28,17 @@ by_row f c v =
     not (eqb (byte_of v.from) (byte_of v.to))
     && (teams_touch f.teams c.t1 c.t2 v.game.home v.game.away
     && (at_slot (slot_touches f.slots (slots_of c)) v.from || at_slot (slot_touches f.slots (slots_of c)) v.to))
+
+-- the same of four numbers, the teams and the slots as bytes: these count from 1, and 0 is none
+unfoldable pub at_byte : (ℕ → Bool) → ℕ → Bool
+at_byte p zero = false
+at_byte p (suc k) = p k
+
+unfoldable pub row_of_bytes : Form → Constraint → ℕ → ℕ → ℕ → ℕ → Bool
+row_of_bytes f c home away from to =
+    not (eqb from to)
+    && (teams_touch f.teams c.t1 c.t2 home away
+    && (at_byte (slot_touches f.slots (slots_of c)) from || at_byte (slot_touches f.slots (slots_of c)) to))
 
 -- .. the second move, if there is one
 abbrev pub by_row_too : Form → Constraint → Option Move → Bool
