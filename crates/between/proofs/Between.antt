@@ -1,5 +1,5 @@
 -- Games between two groups are the games that each team hosts against the opponents counted for it. Assumes nothing.
-use Rattle.std.proofs.lemmas.Nat.Bits.{bit_at-zero}
+use Rattle.std.proofs.lemmas.Nat.Bits.{bit_at-zero, bit_at-lt}
 use mathlib.Core.Path.{◌≡◌, refl, sym, ap, ap₂, ◌∙◌}
 use mathlib.Core.List.{List, ◌∷◌}
 use mathlib.Core.Bool.{Bool, true, false, ◌&&◌, ◌||◌, and_assoc, and_comm}
@@ -61,6 +61,12 @@ pub hosted-over : (n : ℕ) (x : X) (d T1 T2 S : ℕ)
     → sum_to (λ i. over most_slots S (hosts n x d T1 T2 i)) n ≡ over most_slots S (games_between n x d T1 T2)
 unfolding games_between hosts
 hosted-over n x d T1 T2 S = sym (over-sum most_slots S (hosts n x d T1 T2) n)
+
+-- a mask has no more slots of S than there are
+pub count-le : (m S : ℕ) → over most_slots S (bit m) ≤ most_slots
+unfolding over
+count-le m S =
+    omega (arith, sum_bound {f = λ k. only (has S k) (bit m k)} most_slots 1 (λ k l. omega (arith, only-le (has S k) (bit m k), bit_at-lt m k)))
 
 -- a team has one game a slot at most
 pub hosted-le : {n P : ℕ} {c : Constraint} {ts : Tables} → Checkable n P c ts → (S d T1 T2 i : ℕ) → i < n

@@ -26,6 +26,11 @@ asked-le : (asked : Bool) (m k : ℕ) → bit (only asked m) k ≤ bit m k
 asked-le true m k = omega arith
 asked-le false m k = rw (bit_at-zero k) (omega arith)
 
+-- slots of a group that pass a test are no more than all
+pub over-le : (P S : ℕ) (q : ℕ → Bool) → over P S (λ k. only (q k) 1) ≤ P
+unfolding over
+over-le P S q = omega (arith, sum_bound {f = λ k. only (has S k) (only (q k) 1)} P 1 (λ k l. only-bound (has S k) (only-le (q k) 1)))
+
 -- at most two breaks in each slot of a group
 pub few-breaks : (P S : ℕ) (p q : ℕ → Bool) → over P S (λ k. only (p k) 1 + only (q k) 1) ≤ P * 2
 unfolding over

@@ -1,20 +1,23 @@
 -- Runs of away games as masks, and the sum over those that start in S. Assumes nothing.
 use Rattle.std.proofs.lemmas.Nat.Bits.{bit_at-lt}
 use mathlib.Core.Path.{◌≡◌, refl, sym, ap, ap₂, ◌∙◌}
-use mathlib.Core.Bool.{Bool, true, false, ◌&&◌}
+use mathlib.Core.Bool.{Bool, true, false, ◌&&◌, cond}
 use Prim.Native.Nat.{ℕ, ◌*◌, ◌^◌, ◌<◌, ◌≤◌}
 use native.Mathlib.Omega.{arith}
 use lib.Bits.{bit_and}
-use lib.Dec.{leb}
+use lib.Dec.{eqb, leb}
 use Rattle.std.specs.Bool.{then_some}
-use Rattle.robinx.specs.Season.{most_slots}
+use Rattle.std.proofs.lemmas.Bool.{cond_both}
+use Rattle.robinx.specs.Season.{most_slots, slots_of}
 use Rattle.robinx.specs.Sums.{only}
 use Rattle.robinx.specs.Groups.{bit, has, size}
 use Rattle.robinx.specs.Timetable.{last_was, starts_trip, on_trip, along_trip, trip_counts, over_trips}
 use Rattle.robinx.specs.Deviations.{over, outside}
+use Rattle.robinx.specs.declared.Constraint.{Constraint}
 use Rattle.robinx.proofs.Sums.{only-bound, sum_bound}
 use Rattle.robinx.proofs.Ext.{sum-ext, last_was-ext}
 use Rattle.robinx.proofs.Bits.{and-has}
+use Rattle.robinx.proofs.Trips.{along_trip-le, over_trips-le}
 use Rattle.masks.specs.Masks.{Marks}
 use Rattle.trips.specs.TripFigures.{ends_in, TripAt}
 
@@ -64,3 +67,13 @@ unfolding over
 little kmin kmax wanted trip r l e =
     let bits : over most_slots trip (bit wanted) ≤ most_slots * 1 =
     sum_bound most_slots 1 (λ k lk. only-bound (has trip k) (omega (arith, bit_at-lt wanted k))) in omega (arith, e, l, bits)
+
+-- what a team's trips make in all: each adds 1 in BR4, else how far a count of its games is outside kmin .. kmax
+pub runs-small : (c : Constraint) (away home wanted : ℕ) → c.kmin ≤ 255
+    → over_trips (has away) (has home) most_slots (slots_of c) (λ a.
+    cond (eqb c.kind 34) 1 (outside c.kmin c.kmax (along_trip (has away) (has home) most_slots a (bit wanted)))) ≤ most_slots * 255
+runs-small c away home wanted l =
+    over_trips-le (has away) (has home) most_slots (slots_of c) 255 (λ a h.
+    let v = along_trip (has away) (has home) most_slots a (bit wanted) in
+    let few : v ≤ most_slots = along_trip-le (has away) (has home) most_slots a (λ k h. omega (arith, bit_at-lt wanted k)) in
+    cond_both (eqb c.kind 34) 1 (outside c.kmin c.kmax v) (λ r. r ≤ 255) (λ e. omega arith) (λ e. omega (arith, l, few)))
