@@ -5,11 +5,15 @@
 
 #![tactic(auto)]
 
+ghost use Rattle.std.specs.Prelude.{◌≤◌, length, IfOk};
+
 use std::fmt::Display;
 use std::io;
 
 // Reads words as far as there is room, and gives those that were read.
-fn read_words<'a>(input: &mut impl io::Read, words: &'a mut [u64]) -> io::Result<&'a [u64]> {
+fn read_words<'a>(input: &mut impl io::Read, words: &'a mut [u64]) -> io::Result<&'a [u64]>
+    ensures { IfOk result (λ read. length read.now ≤ length words.old) }
+{
     for (n, place) in words.iter_mut().enumerate() {
         let Some(bytes) = input::read_array(input)? else {
             return Ok(&words[..n]);

@@ -6,6 +6,7 @@ use Rattle.robinx.specs.Report.{broken_rows, report_fault, report_rows}
 use Rattle.robinx.specs.RefusalNumbers.{number_of}
 use Rattle.robinx.specs.declared.Refusal.{Refusal}
 use Rattle.replies.specs.Verdict.{verdict_number}
+use Rattle.replies.specs.declared.Accepted.{Accepted}
 use Rattle.report.specs.declared.BrokenConstraint.{BrokenConstraint}
 use Rattle.report.specs.declared.Report.{Report}
 
@@ -20,9 +21,20 @@ broken_of season sheet c = broken_rows (decode season) sheet c
 abbrev pub broken_row : BrokenConstraint → List ℕ
 broken_row b = b.number ∷ b.kind ∷ b.penalty ∷ []
 
+-- the row before those, by what the opening answers: its changes are the totals
+abbrev pub first_row : Accepted → List ℕ
+first_row a = verdict_number a.verdict ∷ a.change.hard ∷ a.change.soft ∷ []
+
 -- .. and all rows of a report
 abbrev pub rows_of : Report → List (List ℕ)
 rows_of r = (verdict_number r.verdict ∷ r.infeasibility ∷ r.objective ∷ []) ∷ map broken_row r.broken.items
+
+-- the refusal, or an opening and a list whose rows are those of the input
+abbrev pub ReportedInto : List ℕ → Result Accepted Refusal → List BrokenConstraint → Type 0
+ReportedInto input r broken =
+    MatchResult r
+    (λ a. (report_fault input ≡ 0) × (first_row a ∷ map broken_row broken ≡ report_rows input))
+    (λ refusal. (report_fault input ≢ 0) × (number_of refusal ≡ report_fault input))
 
 -- the report whose rows are those of the input, or the refusal
 abbrev pub Reported : List ℕ → Result Report Refusal → Type 0

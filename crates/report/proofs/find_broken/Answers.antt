@@ -5,7 +5,7 @@ use Rattle.report.proofs.Broken.{none_yet, not-broken, row-more, penalty-read}
 use Rattle.report.proofs.find_broken.Goals as goal
 
 pub loop-number-init : goal.loop-number-init
-loop-number-init c = rw c.new-broken.ensures (record { few = search rules; rows = λ sheet f. none_yet (decode c.args.season.bytes.now) sheet })
+loop-number-init c = rw c.clear.ensures (record { few = search rules; rows = λ sheet f. none_yet (decode c.args.season.bytes.now) sheet })
 
 pub loop-number-preserved-then-penalty-eq0 : goal.loop-number-preserved-then-penalty-eq0
 loop-number-preserved-then-penalty-eq0 c = record {

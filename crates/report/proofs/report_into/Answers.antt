@@ -7,8 +7,8 @@ use Rattle.season.proofs.Found.{no-fault}
 use Rattle.reader.proofs.Read.{constraints-read}
 use Rattle.report_reply.proofs.Sixth.{has-sizes, few_words}
 use Rattle.report.proofs.RowsReported.{refusal-reported, accepted-clear, rows-reported}
-use Rattle.report.proofs.report_on.Goals as goal
-use Rattle.report.proofs.report_on.Goals.{After-season_end}
+use Rattle.report.proofs.report_into.Goals as goal
+use Rattle.report.proofs.report_into.Goals.{After-season_end}
 
 pub returns-in_err-accepted : goal.returns-in_err-accepted
 returns-in_err-accepted c =
@@ -26,13 +26,13 @@ invariant_of-find_broken c = record {
   measured = (no-fault _ (clear (goal.at.invariant_of-find_broken c).After-season_end)).measured c.sizes-sizes.ensures.read;
 }
 
-pub find_broken-broken-requires : goal.find_broken-broken-requires
-find_broken-broken-requires c =
-    let few = few_words _ (clear (goal.at.find_broken-broken-requires c).After-season_end) c.sizes-sizes.ensures.read in
+pub find_broken-requires : goal.find_broken-requires
+find_broken-requires c =
+    let few = few_words _ (clear (goal.at.find_broken-requires c).After-season_end) c.sizes-sizes.ensures.read in
     (search rules, few)
 
 pub returns : goal.returns
 returns c =
     let told = c.in_ok-accepted.ensures in
     rows-reported c.args.input.now c.in_ok-accepted.accepted told.0 c.season_end.ensures.1 (constraints-read _ c.sizes-sizes.ensures.read) _ told.1
-    c.find_broken-broken.ensures
+    c.find_broken.ensures
