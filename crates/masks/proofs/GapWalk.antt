@@ -60,7 +60,11 @@ module _ {v w : ℕ} where
           go (yes m) = m
           go (no m) = absurd (true≢false (sym l.found ∙ s.passed k (omega (arith, m))))
 
-      pub summed-next : w ≤ 255 → Summed v w (c + (far - k)) (k + (1 + w)) r
+      -- a byte bounds what a game adds
+      pub near : w ≤ 255 → far - k ≤ 255
+      near m = omega (arith, s.room, later, m)
+
+      pub summed-next : far - k ≤ 255 → Summed v w (c + (far - k)) (k + (1 + w)) r
       unfolding last_slot
       summed-next m =
           let game = sym (s.behind k later) ∙ l.found in
@@ -73,7 +77,7 @@ module _ {v w : ℕ} where
             game = game;
             passed = not-up-to l;
             behind = λ i b. l.others i (λ q. omega arith) ∙ s.behind i (omega (arith, later));
-            small = omega (arith, s.small, s.room, later, m);
+            small = omega (arith, s.small, later, m);
             sum =
                 rw (
                   with-next v w (s.last + 1) k (omega (arith, later)) game (λ i b n. sym (s.behind i (omega arith)) ∙ l.clear i n),
